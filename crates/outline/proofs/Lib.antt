@@ -1,0 +1,11 @@
+pub mod Truth
+pub mod Opened
+pub mod RawLaw
+pub mod ScaleLaw
+pub mod SetpointLaw
+pub mod TimedLaw
+pub mod Floats
+pub mod AnalogEnds
+pub mod AnalogRange
+pub mod Figures
+pub mod Worked

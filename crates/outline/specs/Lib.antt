@@ -1,0 +1,21 @@
+-- The outline's sections, in the order in which they lean on each other
+pub mod Limits
+pub mod Analog
+pub mod Settings
+pub mod Weight
+pub mod DayBook
+pub mod Zero
+pub mod Setpoints
+pub mod Stages
+pub mod Totals
+pub mod Parts
+pub mod Requests
+pub mod Tick
+pub mod Numbers
+pub mod Lines
+pub mod Replies
+-- what is shown of them
+pub mod Figures
+pub mod Worked
+pub mod Owed
+pub mod AnalogOwed

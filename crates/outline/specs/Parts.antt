@@ -1,0 +1,43 @@
+-- The state with one part made anew, and one of two states picked part by part. Nothing of the outline stands here.
+use mathlib.Core.Bool.{Bool, cond}
+use Rattle.outline.specs.declared.weight.Stability.{Stability}
+use Rattle.outline.specs.declared.weight.Weighing.{Weighing}
+use Rattle.outline.specs.declared.weight.Display.{Display}
+use Rattle.outline.specs.declared.daybook.Book.{Book}
+use Rattle.outline.specs.declared.stages.Setpoints.{Setpoints}
+use Rattle.outline.specs.declared.stages.Sequence.{Sequence}
+use Rattle.outline.specs.declared.stages.Totals.{Totals}
+use Rattle.outline.specs.declared.machine.State.{State}
+
+abbrev pub withBook : State → Book → State
+withBook st x = record { book = x; stability = st .stability; weighing = st .weighing; display = st .display; setpoints = st .setpoints; sequence = st .sequence; totals = st .totals }
+
+abbrev pub withStability : State → Stability → State
+withStability st x = record { book = st .book; stability = x; weighing = st .weighing; display = st .display; setpoints = st .setpoints; sequence = st .sequence; totals = st .totals }
+
+abbrev pub withWeighing : State → Weighing → State
+withWeighing st x = record { book = st .book; stability = st .stability; weighing = x; display = st .display; setpoints = st .setpoints; sequence = st .sequence; totals = st .totals }
+
+abbrev pub withDisplay : State → Display → State
+withDisplay st x = record { book = st .book; stability = st .stability; weighing = st .weighing; display = x; setpoints = st .setpoints; sequence = st .sequence; totals = st .totals }
+
+abbrev pub withSetpoints : State → Setpoints → State
+withSetpoints st x = record { book = st .book; stability = st .stability; weighing = st .weighing; display = st .display; setpoints = x; sequence = st .sequence; totals = st .totals }
+
+abbrev pub withSequence : State → Sequence → State
+withSequence st x = record { book = st .book; stability = st .stability; weighing = st .weighing; display = st .display; setpoints = st .setpoints; sequence = x; totals = st .totals }
+
+abbrev pub withTotals : State → Totals → State
+withTotals st x = record { book = st .book; stability = st .stability; weighing = st .weighing; display = st .display; setpoints = st .setpoints; sequence = st .sequence; totals = x }
+
+-- a where t is so, else b; part by part, so that a theorem on one part opens that part alone
+abbrev pub pickState : Bool → State → State → State
+pickState t a b = record {
+  book = cond t (a .book) (b .book);
+  stability = cond t (a .stability) (b .stability);
+  weighing = cond t (a .weighing) (b .weighing);
+  display = cond t (a .display) (b .display);
+  setpoints = cond t (a .setpoints) (b .setpoints);
+  sequence = cond t (a .sequence) (b .sequence);
+  totals = cond t (a .totals) (b .totals);
+}

@@ -1,0 +1,133 @@
+-- The outline's section "Requests and their answers": step 4 of a tick.
+use mathlib.Core.Bool.{Bool, true, false, cond, not, _&&_}
+use mathlib.Core.List.{List, [], _∷_}
+use lib.IntN.{pos}
+use Rattle.outline.specs.declared.settings.Settings.{Settings}
+use Rattle.outline.specs.declared.weight.Weights.{Weights}
+use Rattle.outline.specs.declared.weight.Display.the-variants as display
+use Rattle.outline.specs.declared.daybook.Closed.the-variants as closed
+use Rattle.outline.specs.declared.requests.Request.{Request}
+use Rattle.outline.specs.declared.requests.Request.the-variants as request
+use Rattle.outline.specs.declared.requests.Refusal.{Refusal}
+use Rattle.outline.specs.declared.requests.Refusal.the-variants as refusal
+use Rattle.outline.specs.declared.requests.Outcome.{Outcome}
+use Rattle.outline.specs.declared.requests.Outcome.the-variants as outcome
+use Rattle.outline.specs.declared.machine.State.{State}
+use Rattle.outline.specs.declared.machine.Settled.{Settled}
+use Rattle.outline.specs.DayBook.{closedOf}
+use Rattle.outline.specs.Zero.{inZeroRange, zeroedOf, inTareRange, taredOf}
+use Rattle.outline.specs.Setpoints.{setpointsFit}
+use Rattle.outline.specs.Stages.{idleOf, startSequence, stopSequence}
+use Rattle.outline.specs.Totals.{clearTotals, noneBack, takenBack}
+use Rattle.outline.specs.Parts.{withBook, withWeighing, withDisplay, withSetpoints, withSequence, withTotals, pickState}
+
+-- stage 00
+abbrev pub idleNow : State → Bool
+idleNow st = idleOf (st .sequence .stage)
+
+-- ---- the table of refusals: a number, and whether it is given now
+pub record Row : Type 0 where
+  pub number : Refusal
+  pub applies : Bool
+
+-- "| 1 | bad tick |"
+abbrev pub row1 : Weights → Row
+row1 x = record { number = refusal.BadTick; applies = not (x .good) }
+
+-- "| 2 | overload |"
+abbrev pub row2 : Weights → Row
+row2 x = record { number = refusal.Overload; applies = x .overload }
+
+-- "| 3 | stage is not 00 |"
+abbrev pub row3 : State → Row
+row3 st = record { number = refusal.NotIdle; applies = not (idleNow st) }
+
+-- "| 4 | not stable |"
+abbrev pub row4 : Weights → Row
+row4 x = record { number = refusal.Unstable; applies = not (x .stable) }
+
+-- "| 5 | outside the rules above |"
+abbrev pub row5 : Bool → Row
+row5 inside = record { number = refusal.OutsideRules; applies = not inside }
+
+-- "| 6 | setpoint rules broken |"
+abbrev pub row6 : Bool → Row
+row6 kept = record { number = refusal.SetpointRules; applies = not kept }
+
+-- "| 7 | nothing to take back |"
+abbrev pub row7 : State → Row
+row7 st = record { number = refusal.NothingToTakeBack; applies = noneBack (st .totals .back) }
+
+-- The column "To", turned: the rows that each request can meet, in numerical order. "Stop, total clear, show gross and show net are
+-- never refused here."
+abbrev pub rowsTo : Settings → State → Weights → Request → List Row
+rowsTo s st x request.Nothing = []
+rowsTo s st x request.Zero = row1 x ∷ row2 x ∷ row3 st ∷ row4 x ∷ row5 (inZeroRange (s .range) (x .raw)) ∷ []
+rowsTo s st x request.Tare = row1 x ∷ row2 x ∷ row3 st ∷ row4 x ∷ row5 (inTareRange (s .range) (x .divisions)) ∷ []
+rowsTo s st x request.TareClear = row3 st ∷ []
+rowsTo s st x request.Start = row1 x ∷ row2 x ∷ row3 st ∷ []
+rowsTo s st x request.Stop = []
+rowsTo s st x (request.Set p) = row3 st ∷ row6 (setpointsFit (s .batching .mode) p) ∷ []
+rowsTo s st x request.TotalClear = []
+rowsTo s st x request.Undo = row7 st ∷ []
+rowsTo s st x request.ShowGross = []
+rowsTo s st x request.ShowNet = []
+rowsTo s st x request.DayClose = row1 x ∷ []
+
+-- "0 is accepted or nothing asked. Otherwise the first that applies, in numerical order."
+abbrev pub firstOf : List Row → Outcome
+firstOf [] = outcome.Done
+firstOf (r ∷ rs) = cond (r .applies) (outcome.Refused (r .number)) (firstOf rs)
+
+unfoldable pub rulingOf : Settings → State → Weights → Request → Outcome
+rulingOf s st x r = firstOf (rowsTo s st x r)
+
+abbrev pub doneOf : Outcome → Bool
+doneOf outcome.Done = true
+doneOf (outcome.Refused n) = false
+
+-- ---- what an accepted request does
+-- to the state, and nothing else
+abbrev pub plainly : State → Settled
+plainly st = record { outcome = outcome.Done; state = st; held = false; keyed = false; closed = closed.Nothing }
+
+-- "Step 6 is passed over in a tick with an accepted start, or a stop."
+abbrev pub holding : State → Settled
+holding st = record { outcome = outcome.Done; state = st; held = true; keyed = false; closed = closed.Nothing }
+
+-- a zero is keyed, which tracking asks for
+abbrev pub keying : State → Settled
+keying st = record { outcome = outcome.Done; state = st; held = false; keyed = true; closed = closed.Nothing }
+
+-- the day ends as step 2 left it, and the next begins
+abbrev pub closing : State → Settled
+closing st = record { outcome = outcome.Done; state = withBook st (closedOf (st .book)); held = false; keyed = false; closed = closed.Day (st .book) }
+
+unfoldable pub grantedOf : State → Weights → Request → Settled
+grantedOf st x request.Nothing = plainly st
+grantedOf st x request.Zero = keying (withWeighing st (zeroedOf (st .weighing) (x .raw)))
+grantedOf st x request.Tare = plainly (withWeighing st (taredOf (st .weighing) (x .gross)))
+-- "Tare clear makes tare 0; total clear makes total and count 0; show gross and show net choose the displayed weight."
+grantedOf st x request.TareClear = plainly (withWeighing st (taredOf (st .weighing) (pos 0)))
+grantedOf st x request.Start = holding (withSequence st startSequence)
+grantedOf st x request.Stop = holding (withSequence st (stopSequence (st .sequence)))
+grantedOf st x (request.Set p) = plainly (withSetpoints st p)
+grantedOf st x request.TotalClear = plainly (withTotals st clearTotals)
+grantedOf st x request.Undo = plainly (withTotals st (takenBack (st .totals)))
+grantedOf st x request.ShowGross = plainly (withDisplay st display.Gross)
+grantedOf st x request.ShowNet = plainly (withDisplay st display.Net)
+grantedOf st x request.DayClose = closing st
+
+-- "A refused request changes nothing; the rest of the tick goes on."
+abbrev pub settling : Outcome → State → Settled → Settled
+settling o st granted = record {
+  outcome = o;
+  state = pickState (doneOf o) (granted .state) st;
+  held = doneOf o && granted .held;
+  keyed = doneOf o && granted .keyed;
+  closed = cond (doneOf o) (granted .closed) closed.Nothing;
+}
+
+-- step 4
+unfoldable pub settledBy : Settings → State → Weights → Request → Settled
+settledBy s st x r = settling (rulingOf s st x r) st (grantedOf st x r)

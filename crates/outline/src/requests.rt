@@ -1,0 +1,33 @@
+// What a tick may be asked, and how it is answered.
+use crate::stages::Setpoints;
+
+pub enum Request {
+    Nothing,
+    Zero,
+    Tare,
+    TareClear,
+    Start,
+    Stop,
+    Set(Setpoints),
+    TotalClear,
+    Undo,
+    ShowGross,
+    ShowNet,
+    DayClose,
+}
+
+// The outline's refusals 1 to 7.
+pub enum Refusal {
+    BadTick,
+    Overload,
+    NotIdle,
+    Unstable,
+    OutsideRules,
+    SetpointRules,
+    NothingToTakeBack,
+}
+
+pub enum Outcome {
+    Done,
+    Refused(Refusal),
+}

@@ -1,0 +1,105 @@
+// Setpoints, the batch sequence, and the totals.
+
+// In display digits: final F, free fall FF, preliminary P, optional preliminary OP (mode 2: full), over, under, near zero.
+pub struct Setpoints {
+    pub target: u32,
+    pub fall: u32,
+    pub preliminary: u32,
+    pub optional: u32,
+    pub over: u32,
+    pub under: u32,
+    pub near: u32,
+}
+
+// Stages 00 and 03 to 11. A timed stage holds 0 on entering, and one more after each tick that it stays; the paper's number of the
+// stage says nothing of it.
+pub enum Stage {
+    Idle,
+    StartDelay(u16),
+    LargeDisable(u16),
+    LargeFlow,
+    MediumDisable(u16),
+    MediumFlow,
+    SmallDisable(u16),
+    SmallFlow,
+    JudgeDelay(u16),
+    JudgeWait,
+}
+
+pub enum Judgement {
+    None,
+    Ok,
+    Over,
+    Under,
+}
+
+// Errors 1, 2, 4, 6, 9 and 10, or none.
+pub enum SequenceError {
+    None,
+    NoFinal,
+    Reached,
+    Stopped,
+    FlowTime,
+    BadWeight,
+    NotBooked,
+}
+
+pub struct Sequence {
+    pub stage: Stage,
+    // the flow clock
+    pub clock: u16,
+    pub error: SequenceError,
+    pub judgement: Judgement,
+}
+
+pub struct Gates {
+    pub large: bool,
+    pub medium: bool,
+    pub small: bool,
+}
+
+// What the sequence asks of a tick's weights.
+pub struct Facts {
+    // bad or overloaded
+    pub unfit: bool,
+    pub stable: bool,
+    // v has reached F - OP, F - P, F - FF
+    pub large: bool,
+    pub medium: bool,
+    pub small: bool,
+    // v is above F + over, below F - under
+    pub over: bool,
+    pub under: bool,
+}
+
+// What a timed stage does at a tick: it is over, or it stays with so many ticks behind it.
+pub enum Timing {
+    Over,
+    Still(u16),
+}
+
+// What a stage says at a tick.
+pub enum Move {
+    To(Stage),
+    Fail(SequenceError),
+    Finish(Judgement),
+}
+
+// The sequence after step 6, and whether a batch finished.
+pub struct Advanced {
+    pub sequence: Sequence,
+    pub finished: bool,
+}
+
+// The batch that undo would take back.
+pub enum Batch {
+    Nothing,
+    Weight(u64),
+}
+
+// Total in display digits, count of batches, and the batch that can be taken back.
+pub struct Totals {
+    pub total: u64,
+    pub count: u32,
+    pub back: Batch,
+}

@@ -1,0 +1,43 @@
+// From count to weight, and the zero that it is taken from.
+
+// What a count makes: a bad tick, or raw in tenths of a division.
+pub enum Raw {
+    Bad,
+    Tenths(i32),
+}
+
+// Whether the tick before was good, and the run of steady ticks. The raw of that tick is the day book's last good raw.
+pub struct Stability {
+    pub good: bool,
+    pub run: u16,
+}
+
+// The zero in force and what tracking moved it by, in tenths; the tracking counter; the tare, in display digits.
+pub struct Weighing {
+    pub zero: i32,
+    pub tracked: i32,
+    pub counter: u16,
+    pub tare: i32,
+}
+
+// The weight that is displayed.
+pub enum Display {
+    Gross,
+    Net,
+}
+
+// What a tick weighs, worked out in step 3 and again after step 4. The refill contact stands beside it, so that a rule on requests can
+// ask for it; none does yet.
+pub struct Weights {
+    pub good: bool,
+    pub contact: bool,
+    // raw and gross fine, in tenths
+    pub raw: i32,
+    pub fine: i64,
+    // gross, in divisions and in display digits; net
+    pub divisions: i64,
+    pub gross: i64,
+    pub net: i64,
+    pub overload: bool,
+    pub stable: bool,
+}
