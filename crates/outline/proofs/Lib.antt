@@ -9,3 +9,4 @@ pub mod AnalogEnds
 pub mod AnalogRange
 pub mod Figures
 pub mod Worked
+pub mod Rules

@@ -17,5 +17,6 @@ pub mod Replies
 -- what is shown of them
 pub mod Figures
 pub mod Worked
+pub mod Rules
 pub mod Owed
 pub mod AnalogOwed

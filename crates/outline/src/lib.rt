@@ -2,6 +2,7 @@
 // Nothing here does a tick's work; the crates above do, and promise that they do what the definitions say.
 ghost use Rattle.outline.specs.Figures.{Starred, Runs, Table};
 ghost use Rattle.outline.specs.Worked.{Batches, Letters, Lines};
+ghost use Rattle.outline.specs.Rules.{Weighed, Refused, Staged, Booked};
 ghost use Rattle.outline.specs.Owed.{RawLaw, SetpointLaw, TimedLaw};
 ghost use Rattle.outline.specs.AnalogOwed.{ScaleLaw, AnalogLaws};
 
@@ -23,6 +24,10 @@ pub fn paper_holds()
     ensures batches { λ r. ⌜ Batches ⌝ }
     ensures letters { λ r. ⌜ Letters ⌝ }
     ensures lines { λ r. ⌜ Lines ⌝ }
+    ensures weighed { λ r. ⌜ Weighed ⌝ }
+    ensures refused { λ r. ⌜ Refused ⌝ }
+    ensures staged { λ r. ⌜ Staged ⌝ }
+    ensures booked { λ r. ⌜ Booked ⌝ }
     ensures raw { λ r. ⌜ RawLaw ⌝ }
     ensures setpoints { λ r. ⌜ SetpointLaw ⌝ }
     ensures timed { λ r. ⌜ TimedLaw ⌝ }

@@ -1,0 +1,185 @@
+-- Worked by hand from the outline, rule by rule: a figure for each rule that the outline's own figures leave unseen. Statements; they
+-- are computed in proofs/Rules.antt.
+use Prim.Native.Nat.{ℕ, zero, suc}
+use mathlib.Core.Path.{_≡_}
+use mathlib.Core.Bool.{Bool, true, false}
+use mathlib.Core.List.{List, [], _∷_, _++_, foldl}
+use lib.ListN.{replicate, set}
+use lib.IntN.{ℤ, pos, negsuc}
+use Rattle.outline.specs.declared.settings.Settings.{Settings}
+use Rattle.outline.specs.declared.analog.Analog.the-variants as analog
+use Rattle.outline.specs.declared.weight.Raw.the-variants.{Bad, Tenths}
+use Rattle.outline.specs.declared.daybook.Book.{Book}
+use Rattle.outline.specs.declared.requests.Request.{Request}
+use Rattle.outline.specs.declared.requests.Request.the-variants as request
+use Rattle.outline.specs.declared.stages.Setpoints.{Setpoints}
+use Rattle.outline.specs.declared.machine.State.{State}
+use Rattle.outline.specs.declared.machine.Answer.{Answer}
+use Rattle.outline.specs.Limits.{blockLimit, dayTicks}
+use Rattle.outline.specs.Settings.{settingsOf}
+use Rattle.outline.specs.Weight.{rawOf}
+use Rattle.outline.specs.DayBook.{openBook, bookOf, closedOf}
+use Rattle.outline.specs.Tick.{openState, countIn, blockOf}
+use Rattle.outline.specs.Numbers.{outcomeNumber, errorNumber, judgementNumber, blockNumber, toldNumber}
+use Rattle.outline.specs.Figures.{givenOf, listA, settingsA, tickAt, told, next, held, steady, setpoints, oneBatch}
+use Rattle.outline.specs.Worked.{leg, answers, stagesIn, gatesIn, ascii, line, ask, reply, settings7}
+
+-- ---- from count to weight
+-- settings A with Z -1,000, and S - Z twice 10·W
+abbrev pub settingsHalf : Settings
+settingsHalf = settingsOf (givenOf (set (set listA 0 (negsuc 999)) 1 (pos 199000)))
+
+-- a tare of 10, keyed at 100 when stable
+abbrev pub tared : State
+tared = tickAt settingsA (steady (pos 100)) (pos 100) request.Tare .state
+
+-- settings A without tracking, and stable in the next tick at this count
+abbrev pub settingsStill : Settings
+settingsStill = settingsOf (givenOf (set listA 6 (pos 0)))
+
+abbrev pub tareAt : ℤ → ℕ
+tareAt count = outcomeNumber (told settingsStill (foldl (countIn settingsStill false) openState (replicate 100 count)) count request.Tare .outcome)
+
+pub record Weighed : Type 0 where
+  -- a half of a tenth on either side of Z goes away from zero
+  pub raw-up : rawOf (settingsHalf .calibration) (negsuc 998) ≡ Tenths (pos 1)
+  pub raw-down : rawOf (settingsHalf .calibration) (negsuc 1000) ≡ Tenths (negsuc 0)
+  pub raw-at-z : rawOf (settingsHalf .calibration) (negsuc 999) ≡ Tenths (pos 0)
+  pub raw-bad : rawOf (settingsHalf .calibration) (negsuc 2000000) ≡ Bad
+  -- a bad tick answers 0 and 0, no overload, no analog value
+  pub bad-gross : told settingsA tared (pos 2000001) request.Nothing .reading .gross ≡ pos 0
+  pub bad-net : told settingsA tared (pos 2000001) request.Nothing .reading .net ≡ pos 0
+  pub bad-overload : told settingsA tared (pos 2000001) request.Nothing .reading .overload ≡ false
+  -- an accepted tare answers net 0 in its own tick; then net is gross less the tare
+  pub tare-own : told settingsA (steady (pos 100)) (pos 100) request.Tare .reading .net ≡ pos 0
+  pub tare-later : told settingsA tared (pos 60) request.Nothing .reading .net ≡ negsuc 3
+  pub tare-cleared : told settingsA tared (pos 60) request.TareClear .reading .net ≡ pos 6
+  -- the tare's test is on divisions: -4 tenths are 0, -5 are -1; C + 1 is outside though no overload
+  pub tare-minus-4 : tareAt (negsuc 3) ≡ 0
+  pub tare-minus-5 : tareAt (negsuc 4) ≡ 5
+  pub tare-at-c : tareAt (pos 100004) ≡ 0
+  pub tare-past-c : tareAt (pos 100005) ≡ 5
+
+-- ---- requests: the order of the refusals
+abbrev pub running : State
+running = next (next openState (pos 0) (request.Set (setpoints 10 0 0 0))) (pos 0) request.Start
+
+abbrev pub number : State → ℤ → Request → ℕ
+number st count r = outcomeNumber (told settingsA st count r .outcome)
+
+pub record Refused : Type 0 where
+  -- 1 before 2 and 3, 2 before 3, 3 before 4, 4 before 5
+  pub bad : number running (pos 2000001) request.Zero ≡ 1
+  pub overload : number running (pos 110000) request.Zero ≡ 2
+  pub not-idle : number running (pos 0) request.Zero ≡ 3
+  pub unstable : number openState (pos 5000) request.Zero ≡ 4
+  pub outside : number (steady (pos 5000)) (pos 5000) request.Zero ≡ 5
+  pub start-bad : number openState (pos 2000001) request.Start ≡ 1
+  pub start-overload : number openState (pos 110000) request.Start ≡ 2
+  pub start-running : number running (pos 0) request.Start ≡ 3
+  pub start-unstable : number openState (pos 0) request.Start ≡ 0
+  pub tare-clear-running : number running (pos 0) request.TareClear ≡ 3
+  pub tare-clear-bad : number openState (pos 2000001) request.TareClear ≡ 0
+  pub set-running : number running (pos 0) (request.Set (setpoints 1 2 0 0)) ≡ 3
+  pub close-bad : number openState (pos 2000001) request.DayClose ≡ 1
+  pub close-overload : number running (pos 110000) request.DayClose ≡ 0
+  pub undo-none : number running (pos 2000001) request.Undo ≡ 7
+  -- never refused
+  pub stop : number openState (pos 2000001) request.Stop ≡ 0
+  pub clear : number running (pos 2000001) request.TotalClear ≡ 0
+  pub show : number running (pos 2000001) request.ShowNet ≡ 0
+
+-- ---- stages: errors, gates, judgement, booking
+-- a batch that aims at F with over and under, from 0, and reads v at the finish
+abbrev pub judged : ℕ → ℕ → ℕ → ℤ → List Answer
+judged f over under count =
+    answers settingsA
+    (leg 1 (pos 0) (request.Set (record { target = f; fall = f; preliminary = 0; optional = 0; over = over; under = under; near = 0 }))
+    ∷ leg 1 (negsuc 99) request.Start ∷ leg 2 (negsuc 99) request.Nothing ∷ leg 103 count request.Nothing ∷ [])
+    openState
+
+abbrev pub last : List Answer → (Answer → ℕ) → ℕ
+last [] f = 99
+last (a ∷ []) f = f a
+last (a ∷ b ∷ l) f = last (b ∷ l) f
+
+abbrev pub judgementOf : Answer → ℕ
+judgementOf a = judgementNumber (a .judgement)
+
+abbrev pub errorOf : Answer → ℕ
+errorOf a = errorNumber (a .error)
+
+abbrev pub startWith : Setpoints → ℤ → ℕ → List Answer
+startWith p count n = answers settingsA (leg 1 count (request.Set p) ∷ leg 1 count request.Start ∷ leg n count request.Nothing ∷ []) openState
+
+-- loss-in-weight: settings A in mode 2; 100 divisions tared away, then the tank falls
+abbrev pub settingsLoss : Settings
+settingsLoss = settingsOf (givenOf (set listA 11 (pos 2)))
+
+abbrev pub loss : List Answer
+loss =
+    answers settingsLoss
+    (leg 1 (pos 0) (request.Set (record { target = 50; fall = 0; preliminary = 20; optional = 90; over = 0; under = 0; near = 10 }))
+    ∷ leg 101 (pos 1000) request.Nothing ∷ leg 1 (pos 1000) request.Tare ∷ leg 1 (pos 1000) request.Start ∷ leg 2 (pos 1000) request.Nothing
+    ∷ leg 1 (pos 800) request.Nothing ∷ leg 1 (pos 700) request.Nothing ∷ leg 2 (pos 500) request.Nothing ∷ [])
+    openState
+
+abbrev pub fullsIn : List Answer → List Bool
+fullsIn [] = []
+fullsIn (a ∷ l) = a .full ∷ fullsIn l
+
+abbrev pub after : ℕ → List Answer → List Answer
+after zero l = l
+after (suc n) [] = []
+after (suc n) (a ∷ l) = after n l
+
+pub record Staged : Type 0 where
+  -- v is -10 at the start, so F - FF = 0 is not reached; then "over if v > F + over, under if v < F - under, else OK"
+  pub ok-at-over : last (judged 10 2 2 (pos 120)) judgementOf ≡ 1
+  pub over : last (judged 10 2 2 (pos 130)) judgementOf ≡ 2
+  pub ok-at-under : last (judged 10 2 2 (pos 80)) judgementOf ≡ 1
+  pub under : last (judged 10 2 2 (pos 70)) judgementOf ≡ 3
+  -- error 1, error 2, error 4, error 9
+  pub no-final : last (startWith (setpoints 0 0 0 0) (pos 0) 1) errorOf ≡ 1
+  pub reached : last (startWith (setpoints 10 5 0 0) (pos 50) 1) errorOf ≡ 2
+  pub not-reached : last (startWith (setpoints 10 5 0 0) (pos 44) 1) errorOf ≡ 0
+  pub stopped : errorOf (told settingsA running (pos 2000001) request.Stop) ≡ 4
+  pub stopped-idle : errorOf (told settingsA openState (pos 0) request.Stop) ≡ 0
+  pub bad : errorOf (told settingsA running (pos 2000001) request.Nothing) ≡ 9
+  pub overloaded : errorOf (told settingsA running (pos 110000) request.Nothing) ≡ 9
+  -- with P 0 the medium gate never opens: large and small in 04
+  pub no-medium : gatesIn (startWith (setpoints 100 0 0 50) (pos 0) 1) ≡ replicate 2 (0 ∷ 0 ∷ 0 ∷ []) ++ ((4 ∷ 0 ∷ 1 ∷ []) ∷ [])
+  -- mode 2: no large flow, v is what has gone; full while gross is above 90
+  pub loss-stages : stagesIn (after 103 loss) ≡ 3 ∷ 6 ∷ 7 ∷ 7 ∷ 8 ∷ 9 ∷ 10 ∷ []
+  pub loss-full : fullsIn (after 103 loss) ≡ true ∷ true ∷ true ∷ false ∷ false ∷ false ∷ false ∷ []
+  -- total and count go back
+  pub undone : (next oneBatch (pos 100) request.Undo .totals .total ≡ 0) × (next oneBatch (pos 100) request.Undo .totals .count ≡ 0)
+  -- a read in the finishing tick shows the total before the booking, one in the next tick the total after it
+  pub read-before : reply settingsA (held 100 (held 2 running (pos 0)) (pos 100)) (pos 100) (line "RT") 19 ≡ line "00000000,00000000"
+  pub read-after : reply settingsA (held 101 (held 2 running (pos 0)) (pos 100)) (pos 100) (line "RT") 19 ≡ line "00000010,00000001"
+
+-- ---- day book, near zero, lines, blocks
+-- a book one tick before the end of its day's booking, and at it
+abbrev pub lateBook : ℕ → Book
+lateBook n = record { begun = true; opening = pos 0; last = pos 100; refilled = pos 100; used = pos 0; unbooked = pos 0; ticks = n }
+
+pub record Booked : Type 0 where
+  pub first : bookOf openBook (Tenths (pos 70)) false .opening ≡ pos 70
+  pub last-booked : bookOf (lateBook 8639999) (Tenths (pos 90)) false .used ≡ pos 10
+  pub not-booked : bookOf (lateBook 8640000) (Tenths (pos 90)) false .used ≡ pos 0
+  pub unbooked : bookOf (lateBook 8640000) (Tenths (pos 90)) true .unbooked ≡ pos 10
+  pub bad-counts : bookOf (lateBook 8639999) Bad false .ticks ≡ dayTicks
+  pub next-day : closedOf (lateBook 5) ≡ record { begun = true; opening = pos 100; last = pos 100; refilled = pos 0; used = pos 0; unbooked = pos 0; ticks = 0 }
+  -- near zero of 0: on at 0, off above, off in a bad tick
+  pub near : told settingsA openState (pos 4) request.Nothing .near ≡ true
+  pub near-above : told settingsA openState (pos 5) request.Nothing .near ≡ false
+  pub near-bad : told settingsA openState (pos 2000001) request.Nothing .near ≡ false
+  pub no-value : told settingsA openState (pos 0) request.Nothing .analog ≡ analog.None
+  -- the tests for no line and for 64 bytes come before 12
+  pub no-line-first : toldNumber (ask settings7 openState (pos 0) (ascii "XX") 9 .told) ≡ 11
+  pub long-first : toldNumber (ask settings7 openState (pos 0) (replicate 65 88 ++ (13 ∷ 10 ∷ [])) 9 .told) ≡ 11
+  pub empty-prefixed : toldNumber (ask settings7 openState (pos 0) (line "") 9 .told) ≡ 12
+  -- a block is its ticks; an empty one changes nothing; a longer one is refused
+  pub block : blockOf settingsA openState (pos 0 ∷ negsuc 29 ∷ []) false .state ≡ next (next openState (pos 0) request.Nothing) (negsuc 29) request.Nothing
+  pub block-empty : (blockNumber (blockOf settingsA running [] true .answer) ≡ 0) × (blockOf settingsA running [] true .state ≡ running)
+  pub block-long : blockNumber (blockOf settingsA openState (replicate (suc blockLimit) (pos 0)) false .answer) ≡ 15
