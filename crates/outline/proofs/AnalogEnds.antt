@@ -9,10 +9,9 @@ use lib.IntN.{ℤ, pos, negsuc, natAbs, _-ℤ_, +ℤ-invr}
 use lib.Signed.{ltZ, leZ, ≤ℤ-refl}
 use lib.Dec.{T, ltb, leb, lit≤, leb→le, nleb→lt}
 use borrow.Author.Tests.{le-ltb, lt-ltb, ltb-false, leb-true, leb-false, le-leb, lt-leb}
-use lib.Ieee.{Float, binary64, unlike, round, ofInt, add, mul, div, sub}
+use lib.Ieee.{Float, binary64, unlike, round, ofInt, add, mul, div}
 use lib.Ieee.Back.{round-whole}
 use lib.Ieee.Scale.{round-same}
-use Rattle.whole.specs.Limit.{limit-plain}
 use Rattle.whole.specs.Ints.{ints2, ints3, ints, linear}
 use Rattle.outline.specs.declared.analog.Analog.the-variants as analog
 use Rattle.outline.specs.Limits.{endLimit, displayLimit}
@@ -202,8 +201,7 @@ module _ (low high w : ℤ) (ends : Ends low high) (hw : natAbs w ≤ displayLim
   distance-is : distanceOf (scaleOf low high) w ≡ f64 x
   distance-is =
       let l = ends .low-in in
-      ap (λ (z : ℤ). clipOf (sub binary64 (f64 z) (f64 low)) (scaleOf low high .span)) (limit-plain displayLimit w hw)
-      ∙ ap (λ (y : Float). clipOf y (scaleOf low high .span)) (sub-ofInt binary64 w low (omega arith) (omega arith))
+      ap (λ (y : Float). clipOf y (scaleOf low high .span)) (sub-ofInt binary64 w low (omega arith) (omega arith))
       ∙ ap (λ (y : Float). clipOf (f64 (w -ℤ low)) y) span-is
       ∙ clip-is (w -ℤ low) d (omega (arith, sub-size w low)) (omega (arith, d-in))
 

@@ -1,5 +1,8 @@
+-- tools
 pub mod Truth
+pub mod Parts
 pub mod Opened
+-- what the definitions owe
 pub mod RawLaw
 pub mod ScaleLaw
 pub mod SetpointLaw
@@ -7,6 +10,34 @@ pub mod TimedLaw
 pub mod Floats
 pub mod AnalogEnds
 pub mod AnalogRange
+-- figures
 pub mod Figures
 pub mod Worked
 pub mod Rules
+-- what stays true: the book, requests
+pub mod BookStep
+pub mod DaySums
+pub mod BookRun
+pub mod TicketLaw
+pub mod RefusalLaw
+-- the zero, the totals, the gates
+pub mod ZeroStep
+pub mod ZeroRun
+pub mod TotalStep
+pub mod TotalRun
+pub mod QuietStep
+pub mod GatesRun
+-- blocks, lines, setpoints read back
+pub mod RunForms
+pub mod DigitsBack
+pub mod SetpointStep
+pub mod ReadBack
+-- ranges
+pub mod RangeBook
+pub mod RangeStability
+pub mod RangeWeighing
+pub mod RangeGuard
+pub mod RangeSetpoints
+pub mod RangeSequence
+pub mod RangeTotals
+pub mod RangeRun

@@ -2,13 +2,11 @@
 use mathlib.Core.Bool.{Bool, cond}
 use lib.IntN.{ℤ, pos}
 use lib.Ieee.{Float, binary64, ofInt, add, sub, mul, div, lt}
-use Rattle.whole.specs.Limit.{limitTo}
 use Rattle.outline.specs.declared.analog.Scale.{Scale}
 use Rattle.outline.specs.declared.analog.Board.{Board}
 use Rattle.outline.specs.declared.analog.Board.the-variants as board
 use Rattle.outline.specs.declared.analog.Analog.{Analog}
 use Rattle.outline.specs.declared.analog.Analog.the-variants as analog
-use Rattle.outline.specs.Limits.{displayLimit}
 
 -- a whole number as an f64
 abbrev pub f64 : ℤ → Float
@@ -26,10 +24,9 @@ betweenOf least most x = cond (lt x least) least (cond (lt most x) most x)
 unfoldable pub clipOf : Float → Float → Float
 clipOf x d = cond (lt d (f64 (pos 0))) (betweenOf d (f64 (pos 0)) x) (betweenOf (f64 (pos 0)) d x)
 
--- "x = displayed weight - low end, clipped to lie between 0 and D = high - low." The limit on the displayed weight is a guard: no run
--- shows a weight that it stops.
+-- "x = displayed weight - low end, clipped to lie between 0 and D = high - low."
 abbrev pub distanceOf : Scale → ℤ → Float
-distanceOf scale displayed = clipOf (sub binary64 (f64 (limitTo displayLimit displayed)) (scale .low)) (scale .span)
+distanceOf scale displayed = clipOf (sub binary64 (f64 displayed) (scale .low)) (scale .span)
 
 -- "Current in mA is 16·x/D + 4", "each operation rounded once in that order".
 abbrev pub currentOf : Float → Float → Float

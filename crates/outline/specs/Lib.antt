@@ -20,3 +20,10 @@ pub mod Worked
 pub mod Rules
 pub mod Owed
 pub mod AnalogOwed
+-- runs, their histories, and what stays true over them
+pub mod Run
+pub mod Day
+pub mod Zeroing
+pub mod Ledger
+pub mod Ranges
+pub mod StaysTrue

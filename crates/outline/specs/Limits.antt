@@ -84,6 +84,6 @@ rawLimit = 4000000
 abbrev pub bookLimit : ℕ
 bookLimit = 69120000000000
 
--- a displayed weight stops at it on its way to an f64: what an i32 holds
+-- gross and net stop at it: what an i32 holds
 abbrev pub displayLimit : ℕ
 displayLimit = 2147483647

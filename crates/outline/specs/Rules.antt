@@ -21,7 +21,7 @@ use Rattle.outline.specs.Weight.{rawOf}
 use Rattle.outline.specs.DayBook.{openBook, bookOf, closedOf}
 use Rattle.outline.specs.Tick.{openState, countIn, blockOf}
 use Rattle.outline.specs.Numbers.{outcomeNumber, errorNumber, judgementNumber, blockNumber, toldNumber}
-use Rattle.outline.specs.Figures.{givenOf, listA, settingsA, tickAt, told, next, held, steady, setpoints, oneBatch}
+use Rattle.outline.specs.Figures.{givenOf, listA, settingsA, settingsVolts, tickAt, told, next, held, steady, setpoints, oneBatch}
 use Rattle.outline.specs.Worked.{leg, answers, stagesIn, gatesIn, ascii, line, ask, reply, settings7}
 
 -- ---- from count to weight
@@ -112,6 +112,20 @@ errorOf a = errorNumber (a .error)
 abbrev pub startWith : Setpoints → ℤ → ℕ → List Answer
 startWith p count n = answers settingsA (leg 1 count (request.Set p) ∷ leg 1 count request.Start ∷ leg n count request.Nothing ∷ []) openState
 
+-- from -10 to F - FF = 0, and down again to -5 before the finish
+abbrev pub unbooked : List Answer
+unbooked =
+    answers settingsA
+    (leg 1 (pos 0) (request.Set (setpoints 10 10 0 0)) ∷ leg 1 (negsuc 99) request.Start ∷ leg 2 (negsuc 99) request.Nothing
+    ∷ leg 1 (pos 0) request.Nothing ∷ leg 102 (negsuc 49) request.Nothing ∷ [])
+    openState
+
+abbrev pub largeToSmall : List Answer
+largeToSmall =
+    answers settingsA
+    (leg 1 (pos 0) (request.Set (setpoints 100 0 0 50)) ∷ leg 1 (pos 0) request.Start ∷ leg 2 (pos 0) request.Nothing ∷ leg 2 (pos 500) request.Nothing ∷ [])
+    openState
+
 -- loss-in-weight: settings A in mode 2; 100 divisions tared away, then the tank falls
 abbrev pub settingsLoss : Settings
 settingsLoss = settingsOf (givenOf (set listA 11 (pos 2)))
@@ -147,6 +161,11 @@ pub record Staged : Type 0 where
   pub stopped-idle : errorOf (told settingsA openState (pos 0) request.Stop) ≡ 0
   pub bad : errorOf (told settingsA running (pos 2000001) request.Nothing) ≡ 9
   pub overloaded : errorOf (told settingsA running (pos 110000) request.Nothing) ≡ 9
+  -- a batch of less than 0 is judged and not booked: error 10
+  pub not-booked : last unbooked errorOf ≡ 10
+  pub not-booked-judged : last unbooked judgementOf ≡ 3
+  -- 05 goes to 08 where P is 0
+  pub large-to-small : stagesIn largeToSmall ≡ 0 ∷ 3 ∷ 4 ∷ 5 ∷ 8 ∷ 9 ∷ []
   -- with P 0 the medium gate never opens: large and small in 04
   pub no-medium : gatesIn (startWith (setpoints 100 0 0 50) (pos 0) 1) ≡ replicate 2 (0 ∷ 0 ∷ 0 ∷ []) ++ ((4 ∷ 0 ∷ 1 ∷ []) ∷ [])
   -- mode 2: no large flow, v is what has gone; full while gross is above 90
@@ -174,6 +193,14 @@ pub record Booked : Type 0 where
   pub near : told settingsA openState (pos 4) request.Nothing .near ≡ true
   pub near-above : told settingsA openState (pos 5) request.Nothing .near ≡ false
   pub near-bad : told settingsA openState (pos 2000001) request.Nothing .near ≡ false
+  pub near-overload : told settingsA openState (negsuc 100084) request.Nothing .near ≡ false
+  -- full of 0 in mode 2: on above 0, off in a bad or overloaded tick
+  pub full : told settingsLoss openState (pos 5) request.Nothing .full ≡ true
+  pub full-bad : told settingsLoss openState (pos 2000001) request.Nothing .full ≡ false
+  pub full-overload : told settingsLoss openState (pos 110000) request.Nothing .full ≡ false
+  -- no analog value without a board, nor in a bad or overloaded tick with one
+  pub no-value-bad : told settingsVolts openState (pos 2000001) request.Nothing .analog ≡ analog.None
+  pub no-value-overload : told settingsVolts openState (pos 110000) request.Nothing .analog ≡ analog.None
   pub no-value : told settingsA openState (pos 0) request.Nothing .analog ≡ analog.None
   -- the tests for no line and for 64 bytes come before 12
   pub no-line-first : toldNumber (ask settings7 openState (pos 0) (ascii "XX") 9 .told) ≡ 11
@@ -182,4 +209,5 @@ pub record Booked : Type 0 where
   -- a block is its ticks; an empty one changes nothing; a longer one is refused
   pub block : blockOf settingsA openState (pos 0 ∷ negsuc 29 ∷ []) false .state ≡ next (next openState (pos 0) request.Nothing) (negsuc 29) request.Nothing
   pub block-empty : (blockNumber (blockOf settingsA running [] true .answer) ≡ 0) × (blockOf settingsA running [] true .state ≡ running)
+  pub block-long-state : blockOf settingsA running (replicate (suc blockLimit) (pos 0)) false .state ≡ running
   pub block-long : blockNumber (blockOf settingsA openState (replicate (suc blockLimit) (pos 0)) false .answer) ≡ 15

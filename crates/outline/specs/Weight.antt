@@ -5,6 +5,7 @@ use mathlib.Core.Bool.{Bool, true, false, cond, not, _&&_}
 use lib.Dec.{ltb, eqb}
 use lib.IntN.{ℤ, pos, natAbs, _-ℤ_, _*ℤ_}
 use Rattle.whole.specs.Nearest.{nearestOf}
+use Rattle.whole.specs.Limit.{limitTo}
 use Rattle.outline.specs.declared.settings.Calibration.{Calibration}
 use Rattle.outline.specs.declared.settings.Range.{Range}
 use Rattle.outline.specs.declared.settings.Steadiness.{Steadiness}
@@ -16,7 +17,7 @@ use Rattle.outline.specs.declared.weight.Weighing.{Weighing}
 use Rattle.outline.specs.declared.weight.Weights.{Weights}
 use Rattle.outline.specs.declared.weight.Display.{Display}
 use Rattle.outline.specs.declared.weight.Display.the-variants as display
-use Rattle.outline.specs.Limits.{countLimit, rawLimit, overloadMargin}
+use Rattle.outline.specs.Limits.{countLimit, rawLimit, displayLimit, overloadMargin}
 use Rattle.outline.specs.Settings.{within}
 
 -- "A count outside -2,000,000..2,000,000 makes a bad tick."
@@ -43,6 +44,10 @@ overloadOf r divisions = ltb (r .capacity + overloadMargin) (natAbs divisions)
 abbrev pub grossOf : Range → ℤ → ℤ
 grossOf r divisions = divisions *ℤ pos (r .division)
 
+-- A guard: gross and net stop at the limit of what they are kept in, which no run meets.
+abbrev pub keptOf : ℤ → ℤ
+keptOf x = limitTo displayLimit x
+
 -- "Stable when the run is k."
 abbrev pub stableOf : Steadiness → Stability → Bool
 stableOf rule q = eqb (q .run) (rule .time)
@@ -63,7 +68,7 @@ weighOf s q w Bad contact = record {
 weighOf s q w (Tenths raw) contact =
     let fine = raw -ℤ w .zero in
     let divisions = divisionsOf fine in
-    let gross = grossOf (s .range) divisions in
+    let gross = keptOf (grossOf (s .range) divisions) in
     record {
       good = true;
       contact = contact;
@@ -71,7 +76,7 @@ weighOf s q w (Tenths raw) contact =
       fine = fine;
       divisions = divisions;
       gross = gross;
-      net = gross -ℤ w .tare;
+      net = keptOf (gross -ℤ w .tare);
       overload = overloadOf (s .range) divisions;
       stable = stableOf (s .steadiness) q;
     }

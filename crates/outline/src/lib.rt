@@ -5,6 +5,7 @@ ghost use Rattle.outline.specs.Worked.{Batches, Letters, Lines};
 ghost use Rattle.outline.specs.Rules.{Weighed, Refused, Staged, Booked};
 ghost use Rattle.outline.specs.Owed.{RawLaw, SetpointLaw, TimedLaw};
 ghost use Rattle.outline.specs.AnalogOwed.{ScaleLaw, AnalogLaws};
+ghost use Rattle.outline.specs.StaysTrue.{Balance, SumsOfHistory, NothingElse, ZeroInForce, TotalOfBatches, GatesShut, InRange, Refusals, ReadBack, Ticket, BlocksAreRuns, LinesAreRuns};
 
 pub mod analog;
 pub mod daybook;
@@ -33,4 +34,21 @@ pub fn paper_holds()
     ensures timed { λ r. ⌜ TimedLaw ⌝ }
     ensures scale { λ r. ⌜ ScaleLaw ⌝ }
     ensures analog { λ r. ⌜ AnalogLaws ⌝ }
+{}
+
+// Demand 3: what stays true after any ticks and requests from an accepted opening. It does nothing, and stands here as
+// `paper_holds` does.
+pub fn every_run()
+    ensures balance { λ r. ⌜ Balance ⌝ }
+    ensures sums { λ r. ⌜ SumsOfHistory ⌝ }
+    ensures nothing_else { λ r. ⌜ NothingElse ⌝ }
+    ensures zero { λ r. ⌜ ZeroInForce ⌝ }
+    ensures totals { λ r. ⌜ TotalOfBatches ⌝ }
+    ensures gates { λ r. ⌜ GatesShut ⌝ }
+    ensures ranges { λ r. ⌜ InRange ⌝ }
+    ensures refusals { λ r. ⌜ Refusals ⌝ }
+    ensures read_back { λ r. ⌜ ReadBack ⌝ }
+    ensures ticket { λ r. ⌜ Ticket ⌝ }
+    ensures blocks { λ r. ⌜ BlocksAreRuns ⌝ }
+    ensures lines { λ r. ⌜ LinesAreRuns ⌝ }
 {}

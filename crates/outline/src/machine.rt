@@ -47,8 +47,8 @@ pub struct Reading {
     pub good: bool,
     pub overload: bool,
     pub stable: bool,
-    pub gross: i64,
-    pub net: i64,
+    pub gross: i32,
+    pub net: i32,
 }
 
 // Every output of a tick.

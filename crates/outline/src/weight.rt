@@ -36,8 +36,8 @@ pub struct Weights {
     pub fine: i64,
     // gross, in divisions and in display digits; net
     pub divisions: i64,
-    pub gross: i64,
-    pub net: i64,
+    pub gross: i32,
+    pub net: i32,
     pub overload: bool,
     pub stable: bool,
 }

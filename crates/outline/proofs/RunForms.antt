@@ -1,0 +1,39 @@
+-- Blocks and ticks with lines are runs: what holds of every run holds after them. Assumes nothing.
+use mathlib.Core.Path.{_≡_, refl}
+use mathlib.Core.Bool.{Bool, true, false, cond}
+use mathlib.Core.List.{List, [], _∷_, foldl}
+use lib.Dec.{leb}
+use lib.ListN.{length}
+use lib.IntN.{ℤ}
+use borrow.Author.Tests.{le-leb}
+use Rattle.outline.specs.declared.settings.Settings.{Settings}
+use Rattle.outline.specs.declared.machine.State.{State}
+use Rattle.outline.specs.declared.machine.Input.{Input}
+use Rattle.outline.specs.declared.lines.LineTick.{LineTick}
+use Rattle.outline.specs.Limits.{blockLimit}
+use Rattle.outline.specs.Tick.{nextOf, tickOf, countIn, blockOf}
+use Rattle.outline.specs.Replies.{askedOf, unaskedOf, dueText, lineTickOf}
+use Rattle.outline.specs.Run.{History, _▷_, runOf, thenAll, blockInputs, lineInput}
+use Rattle.outline.specs.StaysTrue.{BlocksAreRuns, LinesAreRuns}
+
+-- the counts of a block one after another
+counts-run : (s : Settings) (contact : Bool) (h : History Input) (counts : List ℤ)
+    → foldl (countIn s contact) (runOf s h) counts ≡ runOf s (thenAll h (blockInputs counts contact))
+unfolding countIn runOf thenAll blockInputs
+counts-run s contact h [] = refl
+counts-run s contact h (count ∷ counts) = counts-run s contact (h ▷ unaskedOf count contact) counts
+
+pub blocks-are-runs : BlocksAreRuns
+unfolding blockOf
+blocks-are-runs s h counts contact short = simp (le-leb (length counts) blockLimit short) (counts-run s contact h counts)
+
+-- either tick of a line is the run's next one
+either : (s : Settings) (st : State) (fits : Bool) (a b : LineTick) (i j : Input) → a .state ≡ nextOf s st i → b .state ≡ nextOf s st j
+    → cond fits a b .state ≡ nextOf s st (cond fits i j)
+either s st true a b i j p q = p
+either s st false a b i j p q = q
+
+pub lines-are-runs : LinesAreRuns
+unfolding lineTickOf lineInput runOf tickOf
+lines-are-runs s h count contact receive buffer =
+    either s (runOf s h) (leb (length (dueText s (runOf s h) count contact receive)) (length buffer)) _ _ (askedOf s count contact receive) (unaskedOf count contact) refl refl

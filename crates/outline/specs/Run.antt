@@ -1,0 +1,41 @@
+-- A run: the state after an opening and then any ticks, each with its count, its contact and its request.
+use mathlib.Core.Bool.{Bool, cond}
+use mathlib.Core.List.{List, [], _∷_, foldl}
+use lib.Dec.{leb}
+use lib.ListN.{length}
+use lib.IntN.{ℤ}
+use Prim.Native.Nat.{ℕ}
+use Rattle.outline.specs.declared.settings.Settings.{Settings}
+use Rattle.outline.specs.declared.requests.Request.the-variants as request
+use Rattle.outline.specs.declared.machine.State.{State}
+use Rattle.outline.specs.declared.machine.Input.{Input}
+use Rattle.outline.specs.Tick.{openState, nextOf}
+use Rattle.outline.specs.Replies.{askedOf, unaskedOf, dueText}
+
+-- what came, in the order of time: `h ▷ i` is h and then i
+infixl 40 _▷_
+pub data History (A : Type 0) : Type 0 where
+  start : History A
+  _▷_ : History A → A → History A
+
+unfoldable pub runOf : Settings → History Input → State
+runOf s start = openState
+runOf s (h ▷ i) = nextOf s (runOf s h) i
+
+-- a history and then the inputs of a list, the first one first
+unfoldable pub thenAll : {A : Type 0} → History A → List A → History A
+thenAll h is = foldl _▷_ h is
+
+-- the ticks of a block: its counts, with its contact and no request
+unfoldable pub blockInputs : List ℤ → Bool → List Input
+blockInputs [] contact = []
+blockInputs (count ∷ counts) contact = unaskedOf count contact ∷ blockInputs counts contact
+
+-- the tick that a line makes: with the line's request, or with none where the reply due does not fit
+unfoldable pub lineInput : Settings → State → ℤ → Bool → List ℕ → List ℕ → Input
+lineInput s st count contact receive buffer =
+    cond (leb (length (dueText s st count contact receive)) (length buffer)) (askedOf s count contact receive) (unaskedOf count contact)
+
+-- a tick without its request
+abbrev pub unasked : Input → Input
+unasked i = record { count = i .count; contact = i .contact; request = request.Nothing }

@@ -1,0 +1,153 @@
+-- What stays true after any ticks and requests from an accepted opening: demand 3, as named statements. They are proved in proofs/,
+-- and `every_run` has them as its `ensures`. Histories stand in Run, Day, Zeroing and Ledger, ranges in Ranges.
+use Prim.Native.Nat.{ℕ, _+_, _≤_}
+use mathlib.Core.Path.{_≡_}
+use mathlib.Core.Bool.{Bool, true, false}
+use mathlib.Core.List.{List, [], _∷_}
+use lib.ListN.{length, take, drop}
+use lib.IntN.{ℤ, natAbs, _+ℤ_, _-ℤ_}
+use Rattle.outline.specs.declared.settings.Settings.{Settings}
+use Rattle.outline.specs.declared.daybook.Closed.the-variants as closed
+use Rattle.outline.specs.declared.requests.Request.{Request}
+use Rattle.outline.specs.declared.requests.Request.the-variants as request
+use Rattle.outline.specs.declared.requests.Outcome.the-variants as outcome
+use Rattle.outline.specs.declared.stages.Setpoints.{Setpoints}
+use Rattle.outline.specs.declared.stages.SequenceError.the-variants as error
+use Rattle.outline.specs.declared.machine.State.{State}
+use Rattle.outline.specs.declared.machine.Input.{Input}
+use Rattle.outline.specs.declared.lines.Command.the-variants as command
+use Rattle.outline.specs.declared.lines.LineAnswer.the-variants as told
+use Rattle.outline.specs.declared.lines.Word.the-variants as word
+use Rattle.outline.specs.Limits.{blockLimit, totalLimit, batchLimit}
+use Rattle.outline.specs.Stages.{shut}
+use Rattle.outline.specs.Requests.{doneOf}
+use Rattle.outline.specs.Tick.{settledOf, servedOf, nextOf, tickOf, blockOf}
+use Rattle.outline.specs.Lines.{lineOf, prefixLength, commandOf}
+use Rattle.outline.specs.Replies.{framed, dueText, lineTickOf}
+use Rattle.outline.specs.Owed.{Accepted}
+use Rattle.outline.specs.Run.{History, _▷_, runOf, thenAll, blockInputs, lineInput, unasked}
+use Rattle.outline.specs.Day.{tapeOf, bookHistory}
+use Rattle.outline.specs.Zeroing.{seenRun, zeroingOf, sumOf, AllWithin}
+use Rattle.outline.specs.Ledger.{batchRun, ledgerOf, sumN}
+use Rattle.outline.specs.Ranges.{StateRange, WeightsRange, Unstopped}
+
+-- ---- 1. "the day balances (opening + refilled - used - unbooked is the last good raw)"
+abbrev pub Balance : Type 0
+Balance = (s : Settings) → Accepted s → (h : History Input) →
+    let b = runOf s h .book in
+    b .opening +ℤ b .refilled -ℤ b .used -ℤ b .unbooked ≡ b .last
+
+-- ---- 2. "the sums are those of the tick history, from counts and the refill contact alone"; exactly, so no guard ever acts
+abbrev pub SumsOfHistory : Type 0
+SumsOfHistory = (s : Settings) → Accepted s → (h : History Input) → runOf s h .book ≡ bookHistory (s .calibration) (tapeOf h)
+
+-- ---- 3. "whatever else is asked or set": two runs with the same calibration, counts, contacts and accepted closes have the same book
+abbrev pub NothingElse : Type 0
+NothingElse = (s s′ : Settings) → Accepted s → Accepted s′ → (h h′ : History Input)
+    → s .calibration ≡ s′ .calibration → tapeOf h ≡ tapeOf h′ → runOf s h .book ≡ runOf s′ h′ .book
+
+-- ---- 4. "the zero in force is the last keyed one plus the tracking moves since, whose sum never passes the allowance"
+pub record ZeroOf (s : Settings) (h : History Input) : Type 0 where
+  pub zero :
+      let z = zeroingOf s (seenRun s h) in
+      runOf s h .weighing .zero ≡ z .keyed +ℤ sumOf (z .moves)
+  pub tracked : runOf s h .weighing .tracked ≡ sumOf (zeroingOf s (seenRun s h) .moves)
+  pub allowance : natAbs (sumOf (zeroingOf s (seenRun s h) .moves)) ≤ s .tracking .allowance
+  pub at-each-move : AllWithin (s .tracking .allowance) (zeroingOf s (seenRun s h) .moves)
+
+abbrev pub ZeroInForce : Type 0
+ZeroInForce = (s : Settings) → Accepted s → (h : History Input) → ZeroOf s h
+
+-- ---- 5. "the total is the batches booked since the last clear less those taken back"
+pub record TotalsOf (s : Settings) (h : History Input) : Type 0 where
+  pub total :
+      let l = ledgerOf (batchRun s h) in
+      runOf s h .totals .total + sumN (l .taken) ≡ sumN (l .booked)
+  pub count :
+      let l = ledgerOf (batchRun s h) in
+      runOf s h .totals .count + length (l .taken) ≡ length (l .booked)
+  pub total-limit : runOf s h .totals .total ≤ totalLimit
+  pub count-limit : runOf s h .totals .count ≤ batchLimit
+
+abbrev pub TotalOfBatches : Type 0
+TotalOfBatches = (s : Settings) → Accepted s → (h : History Input) → TotalsOf s h
+
+-- ---- 6. "no gate is open while a sequence error stands": in every answer of every tick
+abbrev pub GatesShut : Type 0
+GatesShut = (s : Settings) → Accepted s → (h : History Input) (i : Input) →
+    let a = tickOf s (runOf s h) i .answer in
+    (a .error ≡ error.None → ⊥) → a .gates ≡ shut
+
+-- ---- 7. every state reached is in range, and the weights of its next tick are
+pub record Within (s : Settings) (h : History Input) : Type 0 where
+  pub state : StateRange s (runOf s h)
+  pub weights : (i : Input) → WeightsRange (s .range) (servedOf s (runOf s h) i)
+  pub unstopped : (i : Input) → Unstopped (s .range) (settledOf s (runOf s h) i .state .weighing) (servedOf s (runOf s h) i)
+
+abbrev pub InRange : Type 0
+InRange = (s : Settings) → Accepted s → (h : History Input) → Within s h
+
+-- ---- 8. a refused request leaves every part of the state, and every output, as the tick without it does
+pub record AsUnasked (s : Settings) (st : State) (i : Input) : Type 0 where
+  pub state : tickOf s st i .state ≡ tickOf s st (unasked i) .state
+  pub reading : tickOf s st i .answer .reading ≡ tickOf s st (unasked i) .answer .reading
+  pub stage : tickOf s st i .answer .stage ≡ tickOf s st (unasked i) .answer .stage
+  pub gates : tickOf s st i .answer .gates ≡ tickOf s st (unasked i) .answer .gates
+  pub judgement : tickOf s st i .answer .judgement ≡ tickOf s st (unasked i) .answer .judgement
+  pub error : tickOf s st i .answer .error ≡ tickOf s st (unasked i) .answer .error
+  pub near : tickOf s st i .answer .near ≡ tickOf s st (unasked i) .answer .near
+  pub full : tickOf s st i .answer .full ≡ tickOf s st (unasked i) .answer .full
+  pub analog : tickOf s st i .answer .analog ≡ tickOf s st (unasked i) .answer .analog
+  pub closed : tickOf s st i .answer .closed ≡ closed.Nothing
+
+abbrev pub Refusals : Type 0
+Refusals = (s : Settings) (st : State) (i : Input) → doneOf (tickOf s st i .answer .outcome) ≡ false → AsUnasked s st i
+
+-- ---- 9. "Setpoints written on the line read back as the same figures"
+-- a request that writes no setpoints
+abbrev pub isSet : Request → Bool
+isSet request.Nothing = false
+isSet request.Zero = false
+isSet request.Tare = false
+isSet request.TareClear = false
+isSet request.Start = false
+isSet request.Stop = false
+isSet (request.Set p) = true
+isSet request.TotalClear = false
+isSet request.Undo = false
+isSet request.ShowGross = false
+isSet request.ShowNet = false
+isSet request.DayClose = false
+
+abbrev pub NoneSet : List Input → Type 0
+NoneSet [] = Unit {0}
+NoneSet (i ∷ is) = (isSet (i .request) ≡ false) × NoneSet is
+
+-- the 42 bytes after SS
+abbrev pub figuresOf : Settings → List ℕ → List ℕ
+figuresOf s receive = take 42 (drop (prefixLength (s .address) + 2) (lineOf receive))
+
+-- an accepted SS, then any ticks that write no setpoints, then RS: its reply due is the figures of SS
+abbrev pub ReadBack : Type 0
+ReadBack = (s : Settings) → Accepted s → (h : History Input) (count : ℤ) (contact : Bool) (receive buffer : List ℕ) (p : Setpoints)
+    → commandOf receive (s .address) ≡ command.Set p
+    → lineTickOf s (runOf s h) count contact receive buffer .told ≡ told.Done
+    → (later : List Input) → NoneSet later
+    → (count′ : ℤ) (contact′ : Bool) (receive′ : List ℕ) → commandOf receive′ (s .address) ≡ command.Do word.ReadSetpoints
+    → dueText s (runOf s (thenAll (h ▷ lineInput s (runOf s h) count contact receive buffer) later)) count′ contact′ receive′
+    ≡ framed (s .address) (figuresOf s receive)
+
+-- ---- 10. what a day close answers is the book that the same tick without the close would have left
+abbrev pub Ticket : Type 0
+Ticket = (s : Settings) (st : State) (i : Input) → i .request ≡ request.DayClose → tickOf s st i .answer .outcome ≡ outcome.Done
+    → tickOf s st i .answer .closed ≡ closed.Day (nextOf s st (unasked i) .book)
+
+-- ---- blocks and ticks with lines are runs
+abbrev pub BlocksAreRuns : Type 0
+BlocksAreRuns = (s : Settings) (h : History Input) (counts : List ℤ) (contact : Bool) → length counts ≤ blockLimit
+    → blockOf s (runOf s h) counts contact .state ≡ runOf s (thenAll h (blockInputs counts contact))
+
+abbrev pub LinesAreRuns : Type 0
+LinesAreRuns = (s : Settings) (h : History Input) (count : ℤ) (contact : Bool) (receive buffer : List ℕ)
+    → lineTickOf s (runOf s h) count contact receive buffer .state
+    ≡ runOf s (h ▷ lineInput s (runOf s h) count contact receive buffer)
