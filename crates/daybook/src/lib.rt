@@ -1,0 +1,143 @@
+// The day book. It is given raw and the refill contact and nothing else.
+ghost use mathlib.Core.Path.{_≡_};
+ghost use lib.IntN.{_-ℤ_};
+ghost use Rattle.outline.specs.DayBook.{openBook, bookedOf, inDay, dayCount, laterGood, bookOf, closedOf};
+use outline::daybook::Book;
+use outline::weight::Raw;
+
+// The ticks of a day that are booked.
+const DAY_TICKS: u32 = 8_640_000;
+
+// A sum stops at it: a guard that no run meets.
+const BOOK_LIMIT: u64 = 69_120_000_000_000;
+
+// The book of an opening: no good tick yet.
+pub fn open_book() -> Book
+    ensures { λ r. ⌜ r ≡ openBook ⌝ }
+{
+    Book {
+        begun: false,
+        opening: 0,
+        last: 0,
+        refilled: 0,
+        used: 0,
+        unbooked: 0,
+        ticks: 0,
+    }
+}
+
+// This tick is one of those that are booked.
+fn is_in_day(b: Book) -> bool
+    ensures { λ r. ⌜ r ≡ inDay b ⌝ }
+{
+    b.ticks < DAY_TICKS
+}
+
+fn counted(b: Book) -> u32
+    ensures { λ r. ⌜ r ≡ dayCount b ⌝ }
+{
+    if is_in_day(b) { b.ticks + 1 } else { b.ticks }
+}
+
+// A sum and the change from one raw to another.
+fn booked(sum: i64, to: i32, from: i32) -> i64
+    ensures { λ r. ⌜ r ≡ bookedOf sum (to -ℤ from) ⌝ }
+{
+    whole::limited(
+        whole::limited(sum, BOOK_LIMIT) + whole::difference(to, from),
+        BOOK_LIMIT,
+    )
+}
+
+// Step 2 at a good tick after the first.
+fn later_good(b: Book, raw: i32, contact: bool) -> Book
+    ensures { λ r. ⌜ r ≡ laterGood b raw contact ⌝ }
+{
+    let ticks = counted(b);
+    if is_in_day(b) {
+        if contact {
+            return Book {
+                begun: true,
+                opening: b.opening,
+                last: raw,
+                refilled: booked(b.refilled, raw, b.last),
+                used: b.used,
+                unbooked: b.unbooked,
+                ticks,
+            };
+        }
+        return Book {
+            begun: true,
+            opening: b.opening,
+            last: raw,
+            refilled: b.refilled,
+            used: booked(b.used, b.last, raw),
+            unbooked: b.unbooked,
+            ticks,
+        };
+    }
+    Book {
+        begun: true,
+        opening: b.opening,
+        last: raw,
+        refilled: b.refilled,
+        used: b.used,
+        unbooked: booked(b.unbooked, b.last, raw),
+        ticks,
+    }
+}
+
+// Step 2 at a good tick.
+fn good_tick(b: Book, raw: i32, contact: bool) -> Book
+    ensures { λ r. ⌜ r ≡ bookOf b (Raw.Tenths raw) contact ⌝ }
+{
+    if b.begun {
+        return later_good(b, raw, contact);
+    }
+    let ticks = counted(b);
+    Book {
+        begun: true,
+        opening: raw,
+        last: raw,
+        refilled: b.refilled,
+        used: b.used,
+        unbooked: b.unbooked,
+        ticks,
+    }
+}
+
+// Step 2.
+pub fn book_tick(b: Book, raw: Raw, contact: bool) -> Book
+    ensures { λ r. ⌜ r ≡ bookOf b raw contact ⌝ }
+{
+    match raw {
+        Raw::Bad => {
+            let ticks = counted(b);
+            Book {
+                begun: b.begun,
+                opening: b.opening,
+                last: b.last,
+                refilled: b.refilled,
+                used: b.used,
+                unbooked: b.unbooked,
+                ticks,
+            }
+        }
+        Raw::Tenths(t) => good_tick(b, t, contact),
+    }
+}
+
+// The book after a day close: the day's last good raw opens the next.
+pub fn closed_book(b: Book) -> Book
+    ensures { λ r. ⌜ r ≡ closedOf b ⌝ }
+{
+    Book {
+        begun: b.begun,
+        opening: b.last,
+        last: b.last,
+        refilled: 0,
+        used: 0,
+        unbooked: 0,
+        ticks: 0,
+    }
+}

@@ -1,0 +1,166 @@
+-- What several proofs of this crate cite: how a number is read from its bits, and what accepted settings say of each number that is cast. Assumes nothing.
+use Prim.Native.Nat.{ℕ, _≤_, _^_}
+use native.Mathlib.Nat as N
+use native.Mathlib.Omega.{arith}
+use mathlib.Core.Path.{_≡_, refl, sym, subst}
+use mathlib.Core.Bool.{Bool, true, false, _&&_, _||_}
+use mathlib.Core.List.{List, [], _∷_}
+use lib.Dec.{T, leb, ltb, ltb→lt, lit<}
+use lib.IntN.{ℤ, pos, negsuc, natAbs, _-ℤ_, _*ℤ_}
+use lib.Signed.{leZ, nonNeg}
+use borrow.Author.Tests.{leb-true, leb-false, ne-eqb}
+use mir.Syntax.{Width, w8, w16, w32}
+use mir.Val.{Fits, SFits, bits, toZ, ofZ}
+use Rattle.whole.specs.Ints.{eqZ, eqZ-yes, eqZ-no, ints, ints3, linear, leZ-trans}
+use Rattle.whole.specs.Machine.{fits-of}
+use Rattle.whole.specs.Bits.{arg, drop-need, eq-is, ne-is}
+use Rattle.outline.specs.declared.settings.Given.{Given}
+use Rattle.outline.specs.Limits.{countLimit, capacityLimit, zeroRangeLimit, trackTimeLimit, trackWidthLimit, allowanceLimit, stableTimeLeast, stableTimeLimit, stableWidthLimit, delayLimit, flowLimit, addressLimit}
+use Rattle.outline.specs.Settings.{fromTo, within, countsFit, capacityFits, divisionFits, zeroRangeFits, trackingFits, stabilityFits, modeFits, delaysFit, flowFits, addressFits, analogFits, settingsFit}
+
+-- ---- numbers and their bits
+-- every number given fits 32 bits
+pub record Held (g : Given) : Type 0 where
+  pub zero : SFits w32 (g .zero)
+  pub span : SFits w32 (g .span)
+  pub capacity : SFits w32 (g .capacity)
+  pub weight : SFits w32 (g .weight)
+  pub division : SFits w32 (g .division)
+  pub zeroing : SFits w32 (g .zeroing)
+  pub tracktime : SFits w32 (g .tracktime)
+  pub trackwidth : SFits w32 (g .trackwidth)
+  pub allowance : SFits w32 (g .allowance)
+  pub stabletime : SFits w32 (g .stabletime)
+  pub stablewidth : SFits w32 (g .stablewidth)
+  pub mode : SFits w32 (g .mode)
+  pub start : SFits w32 (g .start)
+  pub large : SFits w32 (g .large)
+  pub medium : SFits w32 (g .medium)
+  pub small : SFits w32 (g .small)
+  pub judge : SFits w32 (g .judge)
+  pub flow : SFits w32 (g .flow)
+  pub address : SFits w32 (g .address)
+  pub board : SFits w32 (g .board)
+  pub low : SFits w32 (g .low)
+  pub high : SFits w32 (g .high)
+
+-- `x == y` compares the bits: what a branch on it was told
+module _ {x y : ℤ} (f : SFits w32 x) (g : SFits w32 y) where
+  pub told-yes : ofZ w32 x ≡ ofZ w32 y → eqZ x y ≡ true
+  told-yes e = eqZ-yes x y (eq-is f g e)
+
+  pub told-no : (ofZ w32 x ≡ ofZ w32 y → ⊥) → eqZ x y ≡ false
+  told-no n = eqZ-no x y (ne-is f g n)
+
+-- what a cast to unsigned asks
+abbrev pub Unsigned : Width → ℤ → Type 0
+Unsigned w x = T (nonNeg x) × Fits w (natAbs x)
+
+-- of the bits of x, where it holds of x
+pub cast-of : {w : Width} {x : ℤ} → SFits w32 x → Unsigned w x → Unsigned w (toZ w32 (ofZ w32 x))
+cast-of f u = drop-need (arg f) (u .0) (u .1)
+
+-- ---- each link of a chain a && b && c that is true
+abbrev chain : Bool → List Bool → Bool
+chain a [] = a
+chain a (b ∷ l) = chain (a && b) l
+
+abbrev Each : List Bool → Type 0
+Each [] = Unit {0}
+Each (b ∷ l) = (b ≡ true) × Each l
+
+and-left : (a b : Bool) → a && b ≡ true → a ≡ true
+and-left true b e = refl
+and-left false b e = e
+
+and-right : (a b : Bool) → a && b ≡ true → b ≡ true
+and-right true b e = e
+and-right false b e = absurd (subst T (sym e) tt)
+
+links : (a : Bool) (l : List Bool) → chain a l ≡ true → (a ≡ true) × Each l
+links a [] h = (h, tt)
+links a (b ∷ l) h =
+    let r = links (a && b) l h in
+    (and-left a b (r .0), (and-right a b (r .0), r .1))
+
+-- ---- a test, as what the cast asks
+-- a number from a to b, where the width holds b
+from-to : (w : Width) (a b : ℕ) (x : ℤ) → T (ltb b (2 ^ bits w)) → fromTo a b x ≡ true → Unsigned w x
+from-to w a b (pos n) t h = (tt, fits-of (N.lt-of-le-of-lt (leb-true n b (and-right (leb a n) (leb n b) h)) (ltb→lt b (2 ^ bits w) t)))
+from-to w a b (negsuc n) t h = absurd (subst T (sym h) tt)
+
+-- d is at most 50
+one-of : (x : ℤ) → eqZ x (pos 1) || eqZ x (pos 2) || eqZ x (pos 5) || eqZ x (pos 10) || eqZ x (pos 20) || eqZ x (pos 50) ≡ true → Unsigned w8 x
+one-of (pos n) h = (tt, fits-of (N.lt-of-le-of-lt (go (leb n 50) refl) (lit< tt)))
+  where
+    go : (t : Bool) → leb n 50 ≡ t → n ≤ 50
+    go true e = leb-true n 50 e
+    go false e =
+        let p = leb-false n 50 e in
+        let z : false ≡ true = simp (ne-eqb n 1 (λ q. omega arith), ne-eqb n 2 (λ q. omega arith), ne-eqb n 5 (λ q. omega arith), ne-eqb n 10 (λ q. omega arith), ne-eqb n 20 (λ q. omega arith), ne-eqb n 50 (λ q. omega arith)) at h in
+        absurd (subst T (sym z) tt)
+one-of (negsuc n) h = absurd (subst T (sym h) tt)
+
+-- W is at most C
+weight-fits : (w c : ℤ) → leZ (pos 1) w ≡ true → leZ w c ≡ true → leZ c (pos capacityLimit) ≡ true → Unsigned w16 w
+weight-fits w c l h k = from-to w16 1 capacityLimit w tt (simp (l, leZ-trans w c (pos capacityLimit) h k))
+
+-- S - Z is at least 10·W, so not negative; and both are within the limit
+counts-fit : (z s w : ℤ) → within countLimit z ≡ true → within countLimit s ≡ true → leZ (pos 1) w ≡ true → leZ (w *ℤ pos 10) (s -ℤ z) ≡ true → Unsigned w32 (s -ℤ z)
+counts-fit = ints3 _ (λ a a′ b b′ c c′ i j k l. let i′ = simp ints at i in let j′ = simp ints at j in let k′ = simp ints at k in let l′ = simp ints at l in
+    (simp ints (omega linear), fits-of (simp ints (omega linear))))
+
+-- ---- the numbers that are cast
+pub record Narrow (g : Given) : Type 0 where
+  pub counts : Unsigned w32 (g .span -ℤ g .zero)
+  pub weight : Unsigned w16 (g .weight)
+  pub capacity : Unsigned w16 (g .capacity)
+  pub division : Unsigned w8 (g .division)
+  pub zeroing : Unsigned w8 (g .zeroing)
+  pub tracktime : Unsigned w16 (g .tracktime)
+  pub trackwidth : Unsigned w8 (g .trackwidth)
+  pub allowance : Unsigned w16 (g .allowance)
+  pub stabletime : Unsigned w16 (g .stabletime)
+  pub stablewidth : Unsigned w8 (g .stablewidth)
+  pub start : Unsigned w16 (g .start)
+  pub large : Unsigned w16 (g .large)
+  pub medium : Unsigned w16 (g .medium)
+  pub small : Unsigned w16 (g .small)
+  pub judge : Unsigned w16 (g .judge)
+  pub flow : Unsigned w16 (g .flow)
+  pub address : Unsigned w8 (g .address)
+
+pub narrow : (g : Given) → settingsFit g ≡ true → Narrow g
+unfolding settingsFit countsFit capacityFits divisionFits zeroRangeFits trackingFits stabilityFits delaysFit flowFits addressFits
+narrow g h =
+    let r =
+    links (countsFit g)
+    (capacityFits g ∷ divisionFits g ∷ zeroRangeFits g ∷ trackingFits g ∷ stabilityFits g ∷ modeFits g ∷ delaysFit g ∷ flowFits g ∷ addressFits g ∷ analogFits g ∷ [])
+    h in
+    let n = links (within countLimit (g .zero)) (within countLimit (g .span) ∷ leZ (g .weight *ℤ pos 10) (g .span -ℤ g .zero) ∷ []) (r .0) in
+    let c = links (fromTo 1 capacityLimit (g .capacity)) (leZ (pos 1) (g .weight) ∷ leZ (g .weight) (g .capacity) ∷ []) (r .1 .0) in
+    let t = links (fromTo 0 trackTimeLimit (g .tracktime)) (fromTo 0 trackWidthLimit (g .trackwidth) ∷ fromTo 0 allowanceLimit (g .allowance) ∷ []) (r .1 .1 .1 .1 .0) in
+    let s = links (fromTo stableTimeLeast stableTimeLimit (g .stabletime)) (fromTo 0 stableWidthLimit (g .stablewidth) ∷ []) (r .1 .1 .1 .1 .1 .0) in
+    let d =
+    links (fromTo 0 delayLimit (g .start))
+    (fromTo 0 delayLimit (g .large) ∷ fromTo 0 delayLimit (g .medium) ∷ fromTo 0 delayLimit (g .small) ∷ fromTo 0 delayLimit (g .judge) ∷ [])
+    (r .1 .1 .1 .1 .1 .1 .1 .0) in
+    record {
+      counts = counts-fit (g .zero) (g .span) (g .weight) (n .0) (n .1 .0) (c .1 .0) (n .1 .1 .0);
+      weight = weight-fits (g .weight) (g .capacity) (c .1 .0) (c .1 .1 .0) (and-right (leZ (pos 1) (g .capacity)) (leZ (g .capacity) (pos capacityLimit)) (c .0));
+      capacity = from-to w16 1 capacityLimit (g .capacity) tt (c .0);
+      division = one-of (g .division) (r .1 .1 .0);
+      zeroing = from-to w8 1 zeroRangeLimit (g .zeroing) tt (r .1 .1 .1 .0);
+      tracktime = from-to w16 0 trackTimeLimit (g .tracktime) tt (t .0);
+      trackwidth = from-to w8 0 trackWidthLimit (g .trackwidth) tt (t .1 .0);
+      allowance = from-to w16 0 allowanceLimit (g .allowance) tt (t .1 .1 .0);
+      stabletime = from-to w16 stableTimeLeast stableTimeLimit (g .stabletime) tt (s .0);
+      stablewidth = from-to w8 0 stableWidthLimit (g .stablewidth) tt (s .1 .0);
+      start = from-to w16 0 delayLimit (g .start) tt (d .0);
+      large = from-to w16 0 delayLimit (g .large) tt (d .1 .0);
+      medium = from-to w16 0 delayLimit (g .medium) tt (d .1 .1 .0);
+      small = from-to w16 0 delayLimit (g .small) tt (d .1 .1 .1 .0);
+      judge = from-to w16 0 delayLimit (g .judge) tt (d .1 .1 .1 .1 .0);
+      flow = from-to w16 1 flowLimit (g .flow) tt (r .1 .1 .1 .1 .1 .1 .1 .1 .0);
+      address = from-to w8 0 addressLimit (g .address) tt (r .1 .1 .1 .1 .1 .1 .1 .1 .1 .0);
+    }
