@@ -52,12 +52,15 @@ module _ {x y : ℤ} (f : SFits w32 x) (g : SFits w32 y) where
   pub told-no : (ofZ w32 x ≡ ofZ w32 y → ⊥) → eqZ x y ≡ false
   told-no n = eqZ-no x y (ne-is f g n)
 
--- what a cast to unsigned asks
+-- what a cast to unsigned asks of a number
 abbrev pub Unsigned : Width → ℤ → Type 0
 Unsigned w x = T (nonNeg x) × Fits w (natAbs x)
 
--- of the bits of x, where it holds of x
-pub cast-of : {w : Width} {x : ℤ} → SFits w32 x → Unsigned w x → Unsigned w (toZ w32 (ofZ w32 x))
+-- and what it asks of a number of 32 bits, read from them
+abbrev pub Cast : Width → ℤ → Type 0
+Cast w x = Unsigned w (toZ w32 (ofZ w32 x))
+
+cast-of : {w : Width} {x : ℤ} → SFits w32 x → Unsigned w x → Cast w x
 cast-of f u = drop-need (arg f) (u .0) (u .1)
 
 -- ---- each link of a chain a && b && c that is true
@@ -113,26 +116,26 @@ counts-fit = ints3 _ (λ a a′ b b′ c c′ i j k l. let i′ = simp ints at i
 -- ---- the numbers that are cast
 pub record Narrow (g : Given) : Type 0 where
   pub counts : Unsigned w32 (g .span -ℤ g .zero)
-  pub weight : Unsigned w16 (g .weight)
-  pub capacity : Unsigned w16 (g .capacity)
-  pub division : Unsigned w8 (g .division)
-  pub zeroing : Unsigned w8 (g .zeroing)
-  pub tracktime : Unsigned w16 (g .tracktime)
-  pub trackwidth : Unsigned w8 (g .trackwidth)
-  pub allowance : Unsigned w16 (g .allowance)
-  pub stabletime : Unsigned w16 (g .stabletime)
-  pub stablewidth : Unsigned w8 (g .stablewidth)
-  pub start : Unsigned w16 (g .start)
-  pub large : Unsigned w16 (g .large)
-  pub medium : Unsigned w16 (g .medium)
-  pub small : Unsigned w16 (g .small)
-  pub judge : Unsigned w16 (g .judge)
-  pub flow : Unsigned w16 (g .flow)
-  pub address : Unsigned w8 (g .address)
+  pub weight : Cast w16 (g .weight)
+  pub capacity : Cast w16 (g .capacity)
+  pub division : Cast w8 (g .division)
+  pub zeroing : Cast w8 (g .zeroing)
+  pub tracktime : Cast w16 (g .tracktime)
+  pub trackwidth : Cast w8 (g .trackwidth)
+  pub allowance : Cast w16 (g .allowance)
+  pub stabletime : Cast w16 (g .stabletime)
+  pub stablewidth : Cast w8 (g .stablewidth)
+  pub start : Cast w16 (g .start)
+  pub large : Cast w16 (g .large)
+  pub medium : Cast w16 (g .medium)
+  pub small : Cast w16 (g .small)
+  pub judge : Cast w16 (g .judge)
+  pub flow : Cast w16 (g .flow)
+  pub address : Cast w8 (g .address)
 
-pub narrow : (g : Given) → settingsFit g ≡ true → Narrow g
+pub narrow : (g : Given) → Held g → settingsFit g ≡ true → Narrow g
 unfolding settingsFit countsFit capacityFits divisionFits zeroRangeFits trackingFits stabilityFits delaysFit flowFits addressFits
-narrow g h =
+narrow g f h =
     let r =
     links (countsFit g)
     (capacityFits g ∷ divisionFits g ∷ zeroRangeFits g ∷ trackingFits g ∷ stabilityFits g ∷ modeFits g ∷ delaysFit g ∷ flowFits g ∷ addressFits g ∷ analogFits g ∷ [])
@@ -147,20 +150,20 @@ narrow g h =
     (r .1 .1 .1 .1 .1 .1 .1 .0) in
     record {
       counts = counts-fit (g .zero) (g .span) (g .weight) (n .0) (n .1 .0) (c .1 .0) (n .1 .1 .0);
-      weight = weight-fits (g .weight) (g .capacity) (c .1 .0) (c .1 .1 .0) (and-right (leZ (pos 1) (g .capacity)) (leZ (g .capacity) (pos capacityLimit)) (c .0));
-      capacity = from-to w16 1 capacityLimit (g .capacity) tt (c .0);
-      division = one-of (g .division) (r .1 .1 .0);
-      zeroing = from-to w8 1 zeroRangeLimit (g .zeroing) tt (r .1 .1 .1 .0);
-      tracktime = from-to w16 0 trackTimeLimit (g .tracktime) tt (t .0);
-      trackwidth = from-to w8 0 trackWidthLimit (g .trackwidth) tt (t .1 .0);
-      allowance = from-to w16 0 allowanceLimit (g .allowance) tt (t .1 .1 .0);
-      stabletime = from-to w16 stableTimeLeast stableTimeLimit (g .stabletime) tt (s .0);
-      stablewidth = from-to w8 0 stableWidthLimit (g .stablewidth) tt (s .1 .0);
-      start = from-to w16 0 delayLimit (g .start) tt (d .0);
-      large = from-to w16 0 delayLimit (g .large) tt (d .1 .0);
-      medium = from-to w16 0 delayLimit (g .medium) tt (d .1 .1 .0);
-      small = from-to w16 0 delayLimit (g .small) tt (d .1 .1 .1 .0);
-      judge = from-to w16 0 delayLimit (g .judge) tt (d .1 .1 .1 .1 .0);
-      flow = from-to w16 1 flowLimit (g .flow) tt (r .1 .1 .1 .1 .1 .1 .1 .1 .0);
-      address = from-to w8 0 addressLimit (g .address) tt (r .1 .1 .1 .1 .1 .1 .1 .1 .1 .0);
+      weight = cast-of (f .weight) (weight-fits (g .weight) (g .capacity) (c .1 .0) (c .1 .1 .0) (and-right (leZ (pos 1) (g .capacity)) (leZ (g .capacity) (pos capacityLimit)) (c .0)));
+      capacity = cast-of (f .capacity) (from-to w16 1 capacityLimit (g .capacity) tt (c .0));
+      division = cast-of (f .division) (one-of (g .division) (r .1 .1 .0));
+      zeroing = cast-of (f .zeroing) (from-to w8 1 zeroRangeLimit (g .zeroing) tt (r .1 .1 .1 .0));
+      tracktime = cast-of (f .tracktime) (from-to w16 0 trackTimeLimit (g .tracktime) tt (t .0));
+      trackwidth = cast-of (f .trackwidth) (from-to w8 0 trackWidthLimit (g .trackwidth) tt (t .1 .0));
+      allowance = cast-of (f .allowance) (from-to w16 0 allowanceLimit (g .allowance) tt (t .1 .1 .0));
+      stabletime = cast-of (f .stabletime) (from-to w16 stableTimeLeast stableTimeLimit (g .stabletime) tt (s .0));
+      stablewidth = cast-of (f .stablewidth) (from-to w8 0 stableWidthLimit (g .stablewidth) tt (s .1 .0));
+      start = cast-of (f .start) (from-to w16 0 delayLimit (g .start) tt (d .0));
+      large = cast-of (f .large) (from-to w16 0 delayLimit (g .large) tt (d .1 .0));
+      medium = cast-of (f .medium) (from-to w16 0 delayLimit (g .medium) tt (d .1 .1 .0));
+      small = cast-of (f .small) (from-to w16 0 delayLimit (g .small) tt (d .1 .1 .1 .0));
+      judge = cast-of (f .judge) (from-to w16 0 delayLimit (g .judge) tt (d .1 .1 .1 .1 .0));
+      flow = cast-of (f .flow) (from-to w16 1 flowLimit (g .flow) tt (r .1 .1 .1 .1 .1 .1 .1 .1 .0));
+      address = cast-of (f .address) (from-to w8 0 addressLimit (g .address) tt (r .1 .1 .1 .1 .1 .1 .1 .1 .1 .0));
     }

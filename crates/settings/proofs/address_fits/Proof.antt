@@ -15,7 +15,9 @@ is-from-to-requires c κs = search needs
 
 returns : tie.Need-returns
 unfolding addressFits
-returns c = let h = held (c .before .before) in cc (toZ-ofZ (h .address))
+returns c =
+    let h = held (c .before .before) in
+    simp (c .is-from-to .ensures, toZ-ofZ (h .address))
 
 pub address-fits-spec : {M : Type 1} → statement M
 address-fits-spec = tie.close (tie.spec is-from-to-requires returns)

@@ -24,7 +24,15 @@ returns : tie.Need-returns
 unfolding analogFits
 returns c =
     let h = held (c .before .before .before .before .before .before) in
-    cc (toZ-ofZ (h .board), toZ-ofZ (h .low), toZ-ofZ (h .high), eqb-is (h .low) (h .high))
+    simp (
+      c .before .before .is-from-to .ensures,
+      c .before .is-within .ensures,
+      c .is-within2 .ensures,
+      toZ-ofZ (h .board),
+      toZ-ofZ (h .low),
+      toZ-ofZ (h .high),
+      eqb-is (h .low) (h .high),
+    )
 
 pub analog-fits-spec : {M : Type 1} → statement M
 analog-fits-spec =

@@ -3,7 +3,7 @@ use borrow.Author.Needs.{needs}
 use mir.Facts.{toZ-ofZ}
 use Rattle.outline.specs.Settings.{settingsOf}
 use Rattle.whole.specs.Machine.{sfits-of}
-use Rattle.settings.proofs.Laws.{Held, Narrow, narrow, cast-of}
+use Rattle.settings.proofs.Laws.{Held, Narrow, narrow}
 use Rattle.settings.proofs.batching_of.Statement.{statement}
 use Rattle.settings.proofs.batching_of.Tie as tie
 
@@ -11,34 +11,43 @@ held : (s : tie.Start) → Held (s .args .g)
 held s = search sfits-of
 
 fits : (s : tie.Start) → Narrow (s .args .g)
-fits s = narrow (s .args .g) (s .pre)
+fits s = narrow (s .args .g) (held s) (s .pre)
 
 mode-of-requires : tie.Need-mode-of-requires
 mode-of-requires c κs = search needs
 
 cast-t3 : tie.Need-cast-t3
-cast-t3 c = let s = c .before .before .before .before in cast-of (held s .start) (fits s .start)
+cast-t3 c = let n = fits (c .before .before .before .before) in search needs
 
 cast-t4 : tie.Need-cast-t4
-cast-t4 c = let s = c .before .before .before .before .before .before in cast-of (held s .large) (fits s .large)
+cast-t4 c = let n = fits (c .before .before .before .before .before .before) in search needs
 
 cast-t5 : tie.Need-cast-t5
-cast-t5 c = let s = c .before .before .before .before .before .before .before .before in cast-of (held s .medium) (fits s .medium)
+cast-t5 c = let n = fits (c .before .before .before .before .before .before .before .before) in search needs
 
 cast-t6 : tie.Need-cast-t6
-cast-t6 c = let s = c .before .before .before .before .before .before .before .before .before .before in cast-of (held s .small) (fits s .small)
+cast-t6 c = let n = fits (c .before .before .before .before .before .before .before .before .before .before) in search needs
 
 cast-t7 : tie.Need-cast-t7
-cast-t7 c = let s = c .before .before .before .before .before .before .before .before .before .before .before .before in cast-of (held s .judge) (fits s .judge)
+cast-t7 c = let n = fits (c .before .before .before .before .before .before .before .before .before .before .before .before) in search needs
 
 cast-t8 : tie.Need-cast-t8
-cast-t8 c = let s = c .before .before .before .before .before .before .before .before .before .before .before .before .before .before in cast-of (held s .flow) (fits s .flow)
+cast-t8 c = let n = fits (c .before .before .before .before .before .before .before .before .before .before .before .before .before .before) in search needs
 
 returns : tie.Need-returns
 unfolding settingsOf
 returns c =
     let h = held (c .before .before .before .before .before .before .before .before .before .before .before .before .before .before) in
-    simp (c .before .before .before .before .before .before .before .before .before .before .before .before .mode-of .ensures, toZ-ofZ (h .mode), toZ-ofZ (h .start), toZ-ofZ (h .large), toZ-ofZ (h .medium), toZ-ofZ (h .small), toZ-ofZ (h .judge), toZ-ofZ (h .flow))
+    simp (
+      c .before .before .before .before .before .before .before .before .before .before .before .before .mode-of .ensures,
+      toZ-ofZ (h .mode),
+      toZ-ofZ (h .start),
+      toZ-ofZ (h .large),
+      toZ-ofZ (h .medium),
+      toZ-ofZ (h .small),
+      toZ-ofZ (h .judge),
+      toZ-ofZ (h .flow),
+    )
 
 pub batching-of-spec : {M : Type 1} → statement M
 batching-of-spec =

@@ -15,7 +15,13 @@ is-from-to-requires c κs = search needs
 
 returns : tie.Need-returns
 unfolding capacityFits
-returns c = let h = held (c .before .before .before .before .before .before) in cc (toZ-ofZ (h .capacity), toZ-ofZ (h .weight))
+returns c =
+    let h = held (c .before .before .before .before .before .before) in
+    simp (
+      c .before .before .before .before .is-from-to .ensures,
+      toZ-ofZ (h .capacity),
+      toZ-ofZ (h .weight),
+    )
 
 pub capacity-fits-spec : {M : Type 1} → statement M
 capacity-fits-spec = tie.close (tie.spec is-from-to-requires returns)

@@ -1,15 +1,14 @@
 -- Each test is asked of its number as it was given; 10·W and S - Z fit 64 bits.
 use borrow.Author.Needs.{needs}
-use Prim.Native.Nat.{_^_}
-use native.Mathlib.Nat as N
-use lib.Dec.{lit<}
+use Prim.Native.Nat.{ℕ, _≤_, _^_}
+use native.Mathlib.Omega.{arith}
 use lib.IntN.{pos, _*ℤ_}
 use mir.Syntax.{w32, w64}
 use mir.Val.{SFits}
 use mir.Facts.{toZ-ofZ}
 use Rattle.outline.specs.Settings.{countsFit}
 use Rattle.whole.specs.Machine.{sfits-of, wider, abs-fits, mul-fits}
-use Rattle.whole.specs.Bits.{Read, nat, got, cast-need, arg, mul, mul-need, widened}
+use Rattle.whole.specs.Bits.{arg, got, be, cast-need, widened}
 use Rattle.settings.proofs.Laws.{Held}
 use Rattle.settings.proofs.counts_fit.Statement.{statement}
 use Rattle.settings.proofs.counts_fit.Tie as tie
@@ -17,17 +16,14 @@ use Rattle.settings.proofs.counts_fit.Tie as tie
 held : (s : tie.Start) → Held (s .args .g)
 held s = search sfits-of
 
-ten : Read w64 10 (pos 10)
-ten = nat (lit< tt)
-
-least : (s : tie.Start) → SFits w64 (s .args .g .weight *ℤ pos 10)
-least s = mul-fits w64 (2 ^ 31) 10 (s .args .g .weight) 10 (abs-fits w32 (held s .weight)) (N.le-refl 10) tt
+times : (s : tie.Start) (k : ℕ) → k ≤ 10 → SFits w64 (s .args .g .weight *ℤ pos k)
+times s k l = mul-fits w64 (2 ^ 31) 10 (s .args .g .weight) k (abs-fits w32 (held s .weight)) l tt
 
 cast-least : tie.Need-cast-least
-cast-least c = let s = c .before .before in cast-need (arg (held s .weight)) (wider (held s .weight))
+cast-least c = let f = held (c .before .before) .weight in cast-need (arg f) (wider f)
 
 mul-least : tie.Need-mul-least
-mul-least c = let s = c .before .before in mul-need (widened (held s .weight)) ten (least s)
+mul-least c = let s = c .before .before in simp (widened (held s .weight) .read) (times s _ (omega arith))
 
 is-within-requires : tie.Need-is-within-requires
 is-within-requires c κs = search needs
@@ -43,7 +39,15 @@ unfolding countsFit
 returns c =
     let s = c .before .before .before .before .before .before .before .before .before in
     let h = held s in
-    cc (toZ-ofZ (h .zero), toZ-ofZ (h .span), mul (widened (h .weight)) ten (least s) .read, got {w = w64} (c .difference .result) (c .difference .ok) .read)
+    simp (
+      c .before .before .before .before .before .is-within .ensures,
+      c .before .before .before .is-within2 .ensures,
+      widened (h .weight) .read,
+      toZ-ofZ (times s 10 (omega arith)),
+      be (got {w = w64} (c .difference .result) (c .difference .ok)) (c .difference .ensures) .read,
+      toZ-ofZ (h .zero),
+      toZ-ofZ (h .span),
+    )
 
 pub counts-fit-spec : {M : Type 1} → statement M
 counts-fit-spec =

@@ -27,7 +27,20 @@ is-from-to-requires-5 c κs = search needs
 
 returns : tie.Need-returns
 unfolding delaysFit
-returns c = let h = held (c .before .before .before .before .before .before .before .before .before .before) in cc (toZ-ofZ (h .start), toZ-ofZ (h .large), toZ-ofZ (h .medium), toZ-ofZ (h .small), toZ-ofZ (h .judge))
+returns c =
+    let h = held (c .before .before .before .before .before .before .before .before .before .before) in
+    simp (
+      c .before .before .before .before .before .before .before .before .is-from-to .ensures,
+      c .before .before .before .before .before .before .is-from-to2 .ensures,
+      c .before .before .before .before .is-from-to3 .ensures,
+      c .before .before .is-from-to4 .ensures,
+      c .is-from-to5 .ensures,
+      toZ-ofZ (h .start),
+      toZ-ofZ (h .large),
+      toZ-ofZ (h .medium),
+      toZ-ofZ (h .small),
+      toZ-ofZ (h .judge),
+    )
 
 pub delays-fit-spec : {M : Type 1} → statement M
 delays-fit-spec =

@@ -15,7 +15,9 @@ is-from-to-requires c κs = search needs
 
 returns : tie.Need-returns
 unfolding flowFits
-returns c = let h = held (c .before .before) in cc (toZ-ofZ (h .flow))
+returns c =
+    let h = held (c .before .before) in
+    simp (c .is-from-to .ensures, toZ-ofZ (h .flow))
 
 pub flow-fits-spec : {M : Type 1} → statement M
 flow-fits-spec = tie.close (tie.spec is-from-to-requires returns)

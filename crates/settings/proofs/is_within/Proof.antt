@@ -12,7 +12,7 @@ magnitude-requires : tie.Need-magnitude-requires
 magnitude-requires c κs = search needs
 
 returns : tie.Need-returns
-returns c = cc (widened (c .before .fits .x) .read)
+returns c = simp (c .magnitude .ensures, widened (c .before .fits .x) .read)
 
 pub is-within-spec : {M : Type 1} → statement M
 is-within-spec = tie.close (tie.spec cast-magnitude magnitude-requires returns)

@@ -3,7 +3,7 @@ use borrow.Author.Needs.{needs}
 use mir.Facts.{toZ-ofZ}
 use Rattle.outline.specs.Settings.{settingsOf}
 use Rattle.whole.specs.Machine.{sfits-of}
-use Rattle.settings.proofs.Laws.{Held, narrow, cast-of}
+use Rattle.settings.proofs.Laws.{Held, narrow}
 use Rattle.settings.proofs.made.Statement.{statement}
 use Rattle.settings.proofs.made.Tie as tie
 
@@ -26,7 +26,7 @@ batching-of-requires : tie.Need-batching-of-requires
 batching-of-requires c κs = search needs
 
 cast-t7 : tie.Need-cast-t7
-cast-t7 c = let s = c .before .before .before .before .before .before .before in cast-of (held s .address) (narrow (s .args .g) (s .pre) .address)
+cast-t7 c = let s = c .before .before .before .before .before .before .before in narrow (s .args .g) (held s) (s .pre) .address
 
 board-of-requires : tie.Need-board-of-requires
 board-of-requires c κs = search needs

@@ -15,7 +15,9 @@ is-from-to-requires c κs = search needs
 
 returns : tie.Need-returns
 unfolding modeFits
-returns c = let h = held (c .before .before) in cc (toZ-ofZ (h .mode))
+returns c =
+    let h = held (c .before .before) in
+    simp (c .is-from-to .ensures, toZ-ofZ (h .mode))
 
 pub mode-fits-spec : {M : Type 1} → statement M
 mode-fits-spec = tie.close (tie.spec is-from-to-requires returns)

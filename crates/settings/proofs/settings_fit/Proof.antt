@@ -39,7 +39,20 @@ analog-fits-requires c κs = search needs
 
 returns : tie.Need-returns
 unfolding settingsFit
-returns c = cc
+returns c =
+    simp (
+      c .before .before .before .before .before .before .before .before .before .before .counts-fit .ensures,
+      c .before .before .before .before .before .before .before .before .before .capacity-fits .ensures,
+      c .before .before .before .before .before .before .before .before .division-fits .ensures,
+      c .before .before .before .before .before .before .before .zero-range-fits .ensures,
+      c .before .before .before .before .before .before .tracking-fits .ensures,
+      c .before .before .before .before .before .stability-fits .ensures,
+      c .before .before .before .before .mode-fits .ensures,
+      c .before .before .before .delays-fit .ensures,
+      c .before .before .flow-fits .ensures,
+      c .before .address-fits .ensures,
+      c .analog-fits .ensures,
+    )
 
 pub settings-fit-spec : {M : Type 1} → statement M
 settings-fit-spec =

@@ -18,7 +18,14 @@ is-from-to-requires-2 c κs = search needs
 
 returns : tie.Need-returns
 unfolding stabilityFits
-returns c = let h = held (c .before .before .before .before) in cc (toZ-ofZ (h .stabletime), toZ-ofZ (h .stablewidth))
+returns c =
+    let h = held (c .before .before .before .before) in
+    simp (
+      c .before .before .is-from-to .ensures,
+      c .is-from-to2 .ensures,
+      toZ-ofZ (h .stabletime),
+      toZ-ofZ (h .stablewidth),
+    )
 
 pub stability-fits-spec : {M : Type 1} → statement M
 stability-fits-spec = tie.close (tie.spec is-from-to-requires is-from-to-requires-2 returns)

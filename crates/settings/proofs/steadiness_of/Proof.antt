@@ -1,8 +1,9 @@
 -- Accepted numbers fit the types that they are cast to.
+use borrow.Author.Needs.{needs}
 use mir.Facts.{toZ-ofZ}
 use Rattle.outline.specs.Settings.{settingsOf}
 use Rattle.whole.specs.Machine.{sfits-of}
-use Rattle.settings.proofs.Laws.{Held, Narrow, narrow, cast-of}
+use Rattle.settings.proofs.Laws.{Held, Narrow, narrow}
 use Rattle.settings.proofs.steadiness_of.Statement.{statement}
 use Rattle.settings.proofs.steadiness_of.Tie as tie
 
@@ -10,17 +11,19 @@ held : (s : tie.Start) → Held (s .args .g)
 held s = search sfits-of
 
 fits : (s : tie.Start) → Narrow (s .args .g)
-fits s = narrow (s .args .g) (s .pre)
+fits s = narrow (s .args .g) (held s) (s .pre)
 
 cast-t2 : tie.Need-cast-t2
-cast-t2 c = let s = c .before .before in cast-of (held s .stabletime) (fits s .stabletime)
+cast-t2 c = let n = fits (c .before .before) in search needs
 
 cast-t3 : tie.Need-cast-t3
-cast-t3 c = let s = c .before .before .before .before in cast-of (held s .stablewidth) (fits s .stablewidth)
+cast-t3 c = let n = fits (c .before .before .before .before) in search needs
 
 returns : tie.Need-returns
 unfolding settingsOf
-returns c = let h = held (c .before .before .before .before) in cc (toZ-ofZ (h .stabletime), toZ-ofZ (h .stablewidth))
+returns c =
+    let h = held (c .before .before .before .before) in
+    simp (toZ-ofZ (h .stabletime), toZ-ofZ (h .stablewidth))
 
 pub steadiness-of-spec : {M : Type 1} → statement M
 steadiness-of-spec = tie.close (tie.spec cast-t2 cast-t3 returns)

@@ -21,7 +21,16 @@ is-from-to-requires-3 c κs = search needs
 
 returns : tie.Need-returns
 unfolding trackingFits
-returns c = let h = held (c .before .before .before .before .before .before) in cc (toZ-ofZ (h .tracktime), toZ-ofZ (h .trackwidth), toZ-ofZ (h .allowance))
+returns c =
+    let h = held (c .before .before .before .before .before .before) in
+    simp (
+      c .before .before .before .before .is-from-to .ensures,
+      c .before .before .is-from-to2 .ensures,
+      c .is-from-to3 .ensures,
+      toZ-ofZ (h .tracktime),
+      toZ-ofZ (h .trackwidth),
+      toZ-ofZ (h .allowance),
+    )
 
 pub tracking-fits-spec : {M : Type 1} → statement M
 tracking-fits-spec =

@@ -1,8 +1,9 @@
 -- Accepted numbers fit the types that they are cast to.
+use borrow.Author.Needs.{needs}
 use mir.Facts.{toZ-ofZ}
 use Rattle.outline.specs.Settings.{settingsOf}
 use Rattle.whole.specs.Machine.{sfits-of}
-use Rattle.settings.proofs.Laws.{Held, Narrow, narrow, cast-of}
+use Rattle.settings.proofs.Laws.{Held, Narrow, narrow}
 use Rattle.settings.proofs.tracking_of.Statement.{statement}
 use Rattle.settings.proofs.tracking_of.Tie as tie
 
@@ -10,20 +11,26 @@ held : (s : tie.Start) → Held (s .args .g)
 held s = search sfits-of
 
 fits : (s : tie.Start) → Narrow (s .args .g)
-fits s = narrow (s .args .g) (s .pre)
+fits s = narrow (s .args .g) (held s) (s .pre)
 
 cast-t2 : tie.Need-cast-t2
-cast-t2 c = let s = c .before .before in cast-of (held s .tracktime) (fits s .tracktime)
+cast-t2 c = let n = fits (c .before .before) in search needs
 
 cast-t3 : tie.Need-cast-t3
-cast-t3 c = let s = c .before .before .before .before in cast-of (held s .trackwidth) (fits s .trackwidth)
+cast-t3 c = let n = fits (c .before .before .before .before) in search needs
 
 cast-t4 : tie.Need-cast-t4
-cast-t4 c = let s = c .before .before .before .before .before .before in cast-of (held s .allowance) (fits s .allowance)
+cast-t4 c = let n = fits (c .before .before .before .before .before .before) in search needs
 
 returns : tie.Need-returns
 unfolding settingsOf
-returns c = let h = held (c .before .before .before .before .before .before) in cc (toZ-ofZ (h .tracktime), toZ-ofZ (h .trackwidth), toZ-ofZ (h .allowance))
+returns c =
+    let h = held (c .before .before .before .before .before .before) in
+    simp (
+      toZ-ofZ (h .tracktime),
+      toZ-ofZ (h .trackwidth),
+      toZ-ofZ (h .allowance),
+    )
 
 pub tracking-of-spec : {M : Type 1} → statement M
 tracking-of-spec = tie.close (tie.spec cast-t2 cast-t3 cast-t4 returns)

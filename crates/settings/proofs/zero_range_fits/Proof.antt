@@ -15,7 +15,9 @@ is-from-to-requires c κs = search needs
 
 returns : tie.Need-returns
 unfolding zeroRangeFits
-returns c = let h = held (c .before .before) in cc (toZ-ofZ (h .zeroing))
+returns c =
+    let h = held (c .before .before) in
+    simp (c .is-from-to .ensures, toZ-ofZ (h .zeroing))
 
 pub zero-range-fits-spec : {M : Type 1} → statement M
 zero-range-fits-spec = tie.close (tie.spec is-from-to-requires returns)
