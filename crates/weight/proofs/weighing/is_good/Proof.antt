@@ -12,7 +12,7 @@ magnitude-requires : tie.Need-magnitude-requires
 magnitude-requires c κs = search needs
 
 returns : tie.Need-returns
-returns c = cc (cast (arg (c .before .fits .count)) (wider (c .before .fits .count)) .read)
+returns c = simp (c .magnitude .ensures, cast (arg (c .before .fits .count)) (wider (c .before .fits .count)) .read)
 
 pub is-good-spec : {M : Type 1} → statement M
 is-good-spec = tie.close (tie.spec cast-magnitude magnitude-requires returns)

@@ -14,7 +14,7 @@ magnitude-requires : tie.Need-magnitude-requires
 magnitude-requires c κs = search needs
 
 returns : tie.Need-returns
-returns c = cc (toZ-ofZ (c .before .before .fits .divisions))
+returns c = simp (c .magnitude .ensures, toZ-ofZ (c .before .before .fits .divisions))
 
 pub is-overloaded-spec : {M : Type 1} → statement M
 is-overloaded-spec = tie.close (tie.spec cast-result add-result magnitude-requires returns)

@@ -13,7 +13,7 @@ use Rattle.weight.proofs.weighing.kept.Statement.{statement}
 use Rattle.weight.proofs.weighing.kept.Tie as tie
 
 stopped : (c : tie.After-limited) → Read w64 (ofZ w64 (c .limited .result)) (keptOf (c .before .args .x))
-stopped c = be (got (c .limited .result) (c .limited .ok)) (cc (toZ-ofZ (c .before .fits .x)))
+stopped c = be (got (c .limited .result) (c .limited .ok)) (simp (c .limited .ensures, toZ-ofZ (c .before .fits .x)))
 
 fits : (s : tie.Start) → SFits w32 (keptOf (s .args .x))
 fits s = fits-abs w32 (omega (arith, limit-abs displayLimit (s .args .x)))

@@ -18,13 +18,13 @@ abbrev rawAt : tie.Start → ℤ
 rawAt s = tenthsOf (s .args .cal) (s .args .count)
 
 raw : (c : tie.After-tenths) → Read w64 (ofZ w64 (c .tenths .result)) (rawAt (c .before .before .before))
-raw c = be (got (c .tenths .result) (c .tenths .ok)) (cc (toZ-ofZ (c .before .before .before .fits .count)))
+raw c = be (got (c .tenths .result) (c .tenths .ok)) (simp (c .tenths .ensures, toZ-ofZ (c .before .before .before .fits .count)))
 
 good : (c : tie.After-is-good) → c .is-good .result ≡ goodCount (c .before .args .count)
 good c = c .is-good .ensures ∙ ap goodCount (toZ-ofZ (c .before .fits .count))
 
 size : (c : tie.After-magnitude) → c .magnitude .result ≡ natAbs (rawAt (c .before .before .before .before))
-size c = cc (raw (c .before) .read)
+size c = simp (c .magnitude .ensures, raw (c .before) .read)
 
 fits : (c : tie.Then2) → SFits w32 (rawAt (c .before .before .before .before .before))
 fits c = fits-abs w32 (omega (arith, size (c .before)))

@@ -29,7 +29,7 @@ scaled-fits s =
 from-zero : (c : tie.After-difference) → Read w64 (ofZ w64 (c .difference .result)) (c .before .before .args .count -ℤ c .before .before .args .cal .zero)
 from-zero c =
     let s = c .before .before in
-    be (got (c .difference .result) (c .difference .ok)) (cc (toZ-ofZ (s .fits .count), toZ-ofZ (zero-fits s)))
+    be (got (c .difference .result) (c .difference .ok)) (simp (c .difference .ensures, toZ-ofZ (s .fits .count), toZ-ofZ (zero-fits s)))
 
 difference-requires : tie.Need-difference-requires
 difference-requires c κs = search needs

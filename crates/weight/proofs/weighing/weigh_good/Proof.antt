@@ -37,7 +37,7 @@ product-fits s =
 fine : (c : tie.After-difference) → Read w64 (ofZ w64 (c .difference .result)) (fineOf (c .before .before))
 fine c =
     let s = c .before .before in
-    be (got (c .difference .result) (c .difference .ok)) (cc (toZ-ofZ (s .fits .raw), toZ-ofZ (zero-fits s)))
+    be (got (c .difference .result) (c .difference .ok)) (simp (c .difference .ensures, toZ-ofZ (s .fits .raw), toZ-ofZ (zero-fits s)))
 
 divisions : (c : tie.After-nearest) → Read w64 (ofZ w64 (c .nearest .result)) (divisionsOf (fineOf (c .before .before .before)))
 divisions c = be (got (c .nearest .result) (c .nearest .ok)) (c .nearest .ensures ∙ ap divisionsOf (fine (c .before) .read))

@@ -12,7 +12,7 @@ use Rattle.weight.proofs.zero.in_zero_range.Statement.{statement}
 use Rattle.weight.proofs.zero.in_zero_range.Tie as tie
 
 size : (c : tie.After-magnitude) → c .magnitude .result ≡ natAbs (c .before .args .raw)
-size c = cc (cast (arg (c .before .fits .raw)) (wider (c .before .fits .raw)) .read)
+size c = simp (c .magnitude .ensures, cast (arg (c .before .fits .raw)) (wider (c .before .fits .raw)) .read)
 
 cast-magnitude : tie.Need-cast-magnitude
 cast-magnitude c = cast-need (arg (c .fits .raw)) (wider (c .fits .raw))
