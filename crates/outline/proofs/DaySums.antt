@@ -14,7 +14,7 @@ use Rattle.outline.specs.declared.weight.Raw.the-variants.{Bad, Tenths}
 use Rattle.outline.specs.Limits.{dayTicks, rawLimit, bookLimit}
 use Rattle.outline.specs.DayBook.{limitOf, bookedOf, inDay, dayCount, laterGood, bookOf, closedOf}
 use Rattle.outline.specs.Day.{Good, riseOf, risesOf, earlyOf, isUse, isLate, refilledOf, usedOf, unbookedOf, openingOf, lastOf, daySums}
-use Rattle.outline.proofs.Truth.{and-left}
+use Rattle.whole.specs.Chains.{and-left}
 use Rattle.outline.proofs.Parts.{cond-same, cond-turned, plus-nought, nought-plus}
 
 -- the most that raw changes from one good tick to the next

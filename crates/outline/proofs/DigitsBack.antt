@@ -16,7 +16,7 @@ use Rattle.outline.specs.declared.lines.Digits.the-variants.{Number, Not
 use Rattle.outline.specs.declared.lines.Fields.the-variants.{Points}
 use Rattle.outline.specs.Lines.{isDigit, numberFrom, fieldOf, sevenOf, fieldsOf}
 use Rattle.outline.specs.Replies.{digitsOf, pointsText}
-use Rattle.outline.proofs.Truth.{and-left, and-right}
+use Rattle.whole.specs.Chains.{and-left, and-right}
 
 -- one digit more behind v
 digit-on : (k v x : ℕ) → isDigit x ≡ true → digitsOf (suc k) (v * 10 + (x - 48)) ≡ digitsOf k v ++ (x ∷ [])

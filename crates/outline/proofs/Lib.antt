@@ -1,5 +1,4 @@
 -- tools
-pub mod Truth
 pub mod Parts
 pub mod Opened
 -- what the definitions owe

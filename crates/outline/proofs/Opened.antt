@@ -15,7 +15,7 @@ use Rattle.outline.specs.declared.settings.Opening.the-variants as openi
 use Rattle.outline.specs.Limits.{countLimit, capacityLimit}
 use Rattle.outline.specs.Settings.{fromTo, within, countsFit, capacityFits, divisionFits, zeroRangeFits, trackingFits, stabilityFits, modeFits, delaysFit, flowFits, addressFits, analogFits, settingsFit, settingsOf, openOf}
 use Rattle.outline.specs.Owed.{Accepted}
-use Rattle.outline.proofs.Truth.{links}
+use Rattle.whole.specs.Chains.{links}
 
 -- they passed the check, and are what it makes of the settings given
 pub record Passed (g : Given) (s : Settings) : Type 0 where

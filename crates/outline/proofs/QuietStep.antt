@@ -26,7 +26,7 @@ use Rattle.outline.specs.Stages.{factsOf, moveOf, idleOf, lateOf, failed
 use Rattle.outline.specs.Totals.{bookable, bookedSequence}
 use Rattle.outline.specs.Requests.{rulingOf, doneOf, grantedOf, settledBy}
 use Rattle.outline.specs.Tick.{enteredOf, settledOf, servedOf, withTracking, finishedOf, steppedOf, endedOf, nextOf, outputsOf, tickOf}
-use Rattle.outline.proofs.Truth.{or-second}
+use Rattle.whole.specs.Chains.{or-second}
 
 abbrev noError : SequenceError → Bool
 noError error.None = true

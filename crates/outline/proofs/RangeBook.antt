@@ -24,7 +24,7 @@ use Rattle.outline.specs.DayBook.{limitOf, bookedOf, inDay, dayCount, fi
 use Rattle.outline.specs.Requests.{doneOf, rulingOf, grantedOf, settledBy}
 use Rattle.outline.specs.Tick.{enteredOf, settledOf, servedOf, withTracking, finishedOf, steppedOf, endedOf, nextOf}
 use Rattle.outline.specs.Ranges.{BookRange}
-use Rattle.outline.proofs.Truth.{and-right}
+use Rattle.whole.specs.Chains.{and-right}
 use Rattle.outline.proofs.Parts.{cond-same, cond-in, clash}
 
 -- ---- raw

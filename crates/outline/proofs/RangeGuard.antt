@@ -28,7 +28,7 @@ use Rattle.outline.specs.Weight.{rawOf, divisionsOf, grossOf, weighOf}
 use Rattle.outline.specs.Tick.{weightsOf, settledOf, servedOf}
 use Rattle.outline.specs.Ranges.{WeighingRange, Unstopped}
 use Rattle.outline.specs.Owed.{Accepted}
-use Rattle.outline.proofs.Truth.{links, or-either}
+use Rattle.whole.specs.Chains.{links, or-either}
 use Rattle.outline.proofs.Parts.{clash}
 use Rattle.outline.proofs.Opened.{passed, rows}
 use Rattle.outline.proofs.RangeBook.{RawRange, raw-in}

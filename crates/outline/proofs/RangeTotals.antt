@@ -25,7 +25,7 @@ use Rattle.outline.specs.Requests.{doneOf, rulingOf, grantedOf, settledB
 use Rattle.outline.specs.Stages.{comparedOf}
 use Rattle.outline.specs.Tick.{enteredOf, settledOf, withTracking, finishedOf, steppedOf, endedOf, nextOf}
 use Rattle.outline.specs.Ranges.{TotalsRange}
-use Rattle.outline.proofs.Truth.{links}
+use Rattle.whole.specs.Chains.{links}
 use Rattle.outline.proofs.Parts.{cond-in}
 
 pub clear-in : TotalsRange clearTotals

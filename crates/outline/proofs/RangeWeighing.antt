@@ -32,7 +32,7 @@ use Rattle.outline.specs.Zero.{inZeroRange, zeroedOf, inTareRange, tared
 use Rattle.outline.specs.Requests.{idleNow, rowsTo, doneOf, rulingOf, grantedOf, settledBy}
 use Rattle.outline.specs.Tick.{enteredOf, weightsOf, settledOf, servedOf, withTracking, finishedOf, steppedOf, endedOf, nextOf}
 use Rattle.outline.specs.Ranges.{WeighingRange, WeightsRange}
-use Rattle.outline.proofs.Truth.{and-left, and-right, links}
+use Rattle.whole.specs.Chains.{and-left, and-right, links}
 use Rattle.outline.proofs.Parts.{cond-same, cond-in, clash, none-applies}
 
 abbrev In : Settings → Weighing → Type 0

@@ -12,7 +12,7 @@ use Rattle.outline.specs.Limits.{endLimit}
 use Rattle.outline.specs.Settings.{fromTo, within, analogFits, settingsOf}
 use Rattle.outline.specs.Analog.{scaleOf}
 use Rattle.outline.specs.AnalogOwed.{Ends, ScaleLaw}
-use Rattle.outline.proofs.Truth.{links}
+use Rattle.whole.specs.Chains.{links}
 use Rattle.outline.proofs.Opened.{passed, rows}
 
 differ : (x y : ℤ) → not (eqZ x y) ≡ true → x ≡ y → ⊥

@@ -13,7 +13,7 @@ use Rattle.outline.specs.declared.stages.Setpoints.{Setpoints}
 use Rattle.outline.specs.Limits.{setpointLimit}
 use Rattle.outline.specs.Setpoints.{sevenFit, fallFits, preliminaryFits, optionalFits, setpointsFit}
 use Rattle.outline.specs.Owed.{Kept, SetpointLaw}
-use Rattle.outline.proofs.Truth.{links, linked, or-either, or-first, or-second}
+use Rattle.whole.specs.Chains.{links, linked, or-either, or-first, or-second}
 
 -- a rule "0, or more": the test and the fact
 module _ (z r : Bool) {Z R : Type 0} where

@@ -27,7 +27,7 @@ use Rattle.outline.specs.Totals.{clearTotals, bookable, grownOf, bookedT
 use Rattle.outline.specs.Requests.{rulingOf, doneOf, grantedOf, settledBy}
 use Rattle.outline.specs.Tick.{enteredOf, settledOf, servedOf, withTracking, finishedOf, steppedOf, endedOf, nextOf}
 use Rattle.outline.specs.Ledger.{Asked, nothing, undo, clear, asksOf, batchingOf, Ledger, sumN, totalOf, countOf, takeBack, askStep, canBook, finishStep}
-use Rattle.outline.proofs.Truth.{links}
+use Rattle.whole.specs.Chains.{links}
 use Rattle.outline.proofs.Parts.{cond-same, clash}
 
 -- ---- how the totals agree with the ledger

@@ -28,7 +28,7 @@ use Rattle.outline.specs.Zero.{inZeroRange, trackingOn, calmOf, mayMove,
 use Rattle.outline.specs.Requests.{idleNow, rulingOf, doneOf, grantedOf, settledBy}
 use Rattle.outline.specs.Tick.{enteredOf, weightsOf, settledOf, servedOf, withTracking, finishedOf, steppedOf, endedOf, nextOf}
 use Rattle.outline.specs.Zeroing.{asksZero, seenOf, Zeroing, sumOf, AllWithin, inForce, isCalm, calmStep, restless, zeroStep}
-use Rattle.outline.proofs.Truth.{and-left, and-right}
+use Rattle.whole.specs.Chains.{and-left, and-right}
 use Rattle.outline.proofs.Parts.{cond-same, and-no, and-yes, clash, plus-nought}
 
 -- ---- what a state says of the zero

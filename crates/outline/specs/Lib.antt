@@ -27,3 +27,5 @@ pub mod Zeroing
 pub mod Ledger
 pub mod Ranges
 pub mod StaysTrue
+-- a law that the code's proofs cite
+pub mod Within

@@ -1,106 +1,28 @@
-// Step 4: the tick's request, its ruling by the outline's table, and what it does where it is accepted.
+// Step 4: the tick's request, and what it does where it is accepted.
 ghost use mathlib.Core.Path.{_≡_};
-ghost use mathlib.Core.Bool.{cond};
-ghost use mathlib.Core.List.{[], _∷_};
-ghost use Rattle.outline.specs.Requests.{idleNow, row1, row2, row3, row4, row5, row6, row7, firstOf, plainly, holding, keying, closing, settling, settledBy};
+ghost use Rattle.outline.specs.Requests.{plainly, holding, keying, closing, settling, settledBy};
 ghost use Rattle.outline.specs.Parts.{withDisplay};
-use crate::parts::with_book;
-use crate::parts::with_display;
-use crate::parts::with_sequence;
-use crate::parts::with_setpoints;
-use crate::parts::with_totals;
-use crate::parts::with_weighing;
 use outline::daybook::Closed;
 use outline::machine::Settled;
 use outline::machine::State;
 use outline::requests::Outcome;
-use outline::requests::Refusal;
 use outline::requests::Request;
 use outline::settings::Settings;
 use outline::stages::Setpoints;
 use outline::weight::Display;
 use outline::weight::Weights;
-
-pub mod parts;
-
-// Stage 00.
-pub fn is_idle_now(st: State) -> bool
-    ensures { λ r. ⌜ r ≡ idleNow st ⌝ }
-{
-    let sequence = st.sequence;
-    let stage = sequence.stage;
-    batch::is_idle(stage)
-}
-
-// ---- rulings: the first row that applies, in numerical order; `rest` is what the rows after these say
-// Rows 1 and 2.
-fn fit_ruling(x: Weights, rest: Outcome) -> Outcome
-    ensures { λ r. ⌜ r ≡ cond (row1 x .applies) (Outcome.Refused (row1 x .number)) (cond (row2 x .applies) (Outcome.Refused (row2 x .number)) rest) ⌝ }
-{
-    if !x.good {
-        return Outcome::Refused(Refusal::BadTick);
-    }
-    if x.overload {
-        return Outcome::Refused(Refusal::Overload);
-    }
-    rest
-}
-
-// Row 3.
-fn idle_ruling(st: State, rest: Outcome) -> Outcome
-    ensures { λ r. ⌜ r ≡ cond (row3 st .applies) (Outcome.Refused (row3 st .number)) rest ⌝ }
-{
-    if is_idle_now(st) {
-        return rest;
-    }
-    Outcome::Refused(Refusal::NotIdle)
-}
-
-// Zero and tare, from row 3 on; `inside` is the test of their own rule.
-fn still_ruling(st: State, x: Weights, inside: bool) -> Outcome
-    ensures { λ r. ⌜ r ≡ firstOf (row3 st ∷ row4 x ∷ row5 inside ∷ []) ⌝ }
-{
-    let idle = is_idle_now(st);
-    let stable = x.stable;
-    if !idle {
-        return Outcome::Refused(Refusal::NotIdle);
-    }
-    if !stable {
-        return Outcome::Refused(Refusal::Unstable);
-    }
-    if inside {
-        return Outcome::Done;
-    }
-    Outcome::Refused(Refusal::OutsideRules)
-}
-
-fn set_ruling(kept: bool) -> Outcome
-    ensures { λ r. ⌜ r ≡ firstOf (row6 kept ∷ []) ⌝ }
-{
-    if kept {
-        return Outcome::Done;
-    }
-    Outcome::Refused(Refusal::SetpointRules)
-}
-
-fn undo_ruling(st: State) -> Outcome
-    ensures { λ r. ⌜ r ≡ firstOf (row7 st ∷ []) ⌝ }
-{
-    let totals = st.totals;
-    if totals::has_none_back(totals) {
-        return Outcome::Refused(Refusal::NothingToTakeBack);
-    }
-    Outcome::Done
-}
-
-fn close_ruling(x: Weights) -> Outcome
-    ensures { λ r. ⌜ r ≡ firstOf (row1 x ∷ []) ⌝ }
-{
-    if x.good {
-        return Outcome::Done;
-    }
-    Outcome::Refused(Refusal::BadTick)
-}
+use parts::with_book;
+use parts::with_display;
+use parts::with_sequence;
+use parts::with_setpoints;
+use parts::with_totals;
+use parts::with_weighing;
+use rulings::close_ruling;
+use rulings::fit_ruling;
+use rulings::idle_ruling;
+use rulings::set_ruling;
+use rulings::still_ruling;
+use rulings::undo_ruling;
 
 // ---- what an accepted request does
 fn done(st: State) -> Settled
@@ -194,11 +116,11 @@ fn ask_zero(s: Settings, st: State, x: Weights) -> Settled
 {
     let range = s.range;
     let weighing = st.weighing;
-    let ruling = still_ruling(st, x, weight::zero::in_zero_range(range, x.raw));
+    let ruling = still_ruling(st, x, zero::in_zero_range(range, x.raw));
     settled(
         fit_ruling(x, ruling),
         st,
-        done_keying(with_weighing(st, weight::zero::zeroed(weighing, x.raw))),
+        done_keying(with_weighing(st, zero::zeroed(weighing, x.raw))),
     )
 }
 
@@ -207,11 +129,11 @@ fn ask_tare(s: Settings, st: State, x: Weights) -> Settled
 {
     let range = s.range;
     let weighing = st.weighing;
-    let ruling = still_ruling(st, x, weight::zero::in_tare_range(range, x.divisions));
+    let ruling = still_ruling(st, x, zero::in_tare_range(range, x.divisions));
     settled(
         fit_ruling(x, ruling),
         st,
-        done(with_weighing(st, weight::zero::tared(weighing, x.gross))),
+        done(with_weighing(st, zero::tared(weighing, x.gross))),
     )
 }
 
@@ -222,7 +144,7 @@ fn ask_tare_clear(s: Settings, st: State, x: Weights) -> Settled
     settled(
         idle_ruling(st, Outcome::Done),
         st,
-        done(with_weighing(st, weight::zero::tared(weighing, 0))),
+        done(with_weighing(st, zero::tared(weighing, 0))),
     )
 }
 

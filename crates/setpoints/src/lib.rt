@@ -4,7 +4,7 @@ ghost use Rattle.outline.specs.Setpoints.{openSetpoints, sevenFit, preliminaryF
 use outline::settings::Mode;
 use outline::stages::Setpoints;
 use outline::weight::Weights;
-use weight::weighing::is_fit;
+use weight::is_fit;
 
 // Each of the seven, in display digits.
 const SETPOINT_LIMIT: u32 = 999_999;

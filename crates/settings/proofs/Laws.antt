@@ -11,6 +11,7 @@ use lib.Signed.{leZ, nonNeg}
 use borrow.Author.Tests.{leb-true, leb-false, ne-eqb}
 use mir.Syntax.{Width, w8, w16, w32}
 use mir.Val.{Fits, SFits, bits, toZ, ofZ}
+use Rattle.whole.specs.Chains.{and-right, links}
 use Rattle.whole.specs.Ints.{eqZ, eqZ-yes, eqZ-no, ints, ints3, linear, leZ-trans}
 use Rattle.whole.specs.Machine.{fits-of}
 use Rattle.whole.specs.Bits.{arg, drop-need, eq-is, ne-is}
@@ -62,29 +63,6 @@ Cast w x = Unsigned w (toZ w32 (ofZ w32 x))
 
 cast-of : {w : Width} {x : ℤ} → SFits w32 x → Unsigned w x → Cast w x
 cast-of f u = drop-need (arg f) (u .0) (u .1)
-
--- ---- each link of a chain a && b && c that is true
-abbrev chain : Bool → List Bool → Bool
-chain a [] = a
-chain a (b ∷ l) = chain (a && b) l
-
-abbrev Each : List Bool → Type 0
-Each [] = Unit {0}
-Each (b ∷ l) = (b ≡ true) × Each l
-
-and-left : (a b : Bool) → a && b ≡ true → a ≡ true
-and-left true b e = refl
-and-left false b e = e
-
-and-right : (a b : Bool) → a && b ≡ true → b ≡ true
-and-right true b e = e
-and-right false b e = absurd (subst T (sym e) tt)
-
-links : (a : Bool) (l : List Bool) → chain a l ≡ true → (a ≡ true) × Each l
-links a [] h = (h, tt)
-links a (b ∷ l) h =
-    let r = links (a && b) l h in
-    (and-left a b (r .0), (and-right a b (r .0), r .1))
 
 -- ---- a test, as what the cast asks
 -- a number from a to b, where the width holds b

@@ -1,4 +1,132 @@
-// From count to weight, and the zero that it is taken from. Raw and gross fine are in tenths, gross, net and tare in display digits.
-pub mod stability;
-pub mod weighing;
-pub mod zero;
+// From count to weight. Raw and gross fine are in tenths, gross, net and tare in display digits.
+ghost use mathlib.Core.Path.{_≡_};
+ghost use Rattle.outline.specs.Weight.{goodCount, tenthsOf, rawOf, overloadOf, keptOf, weighOf, displayedOf, fitOf};
+use outline::settings::Calibration;
+use outline::settings::Range;
+use outline::settings::Settings;
+use outline::weight::Display;
+use outline::weight::Raw;
+use outline::weight::Stability;
+use outline::weight::Weighing;
+use outline::weight::Weights;
+use stability::is_stable;
+
+// A count beyond it makes a bad tick.
+const COUNT_LIMIT: u64 = 2_000_000;
+
+// A raw beyond it makes a bad tick: a guard that no accepted calibration meets.
+const RAW_LIMIT: u64 = 4_000_000;
+
+// Overload is beyond the capacity and so many divisions.
+const OVERLOAD_MARGIN: u64 = 8;
+
+// Gross and net stop at what an i32 holds.
+const DISPLAY_LIMIT: u64 = 2_147_483_647;
+
+fn is_good(count: i32) -> bool
+    ensures { λ r. ⌜ r ≡ goodCount count ⌝ }
+{
+    whole::magnitude(count as i64) <= COUNT_LIMIT
+}
+
+// (count - Z)·10·W/(S - Z), to nearest.
+fn tenths(cal: Calibration, count: i32) -> i64
+    ensures { λ r. ⌜ r ≡ tenthsOf cal count ⌝ }
+{
+    let from_zero = whole::difference(count, cal.zero);
+    let weight = 10 * (cal.weight as i64);
+    whole::nearest(from_zero * weight, cal.counts)
+}
+
+// What a count makes.
+pub fn raw_of(cal: Calibration, count: i32) -> Raw
+    ensures { λ r. ⌜ r ≡ rawOf cal count ⌝ }
+{
+    if !is_good(count) {
+        return Raw::Bad;
+    }
+    let raw = tenths(cal, count);
+    if whole::magnitude(raw) <= RAW_LIMIT {
+        Raw::Tenths(raw as i32)
+    } else {
+        Raw::Bad
+    }
+}
+
+fn is_overloaded(r: Range, divisions: i64) -> bool
+    ensures { λ r′. ⌜ r′ ≡ overloadOf r divisions ⌝ }
+{
+    (r.capacity as u64) + OVERLOAD_MARGIN < whole::magnitude(divisions)
+}
+
+fn kept(x: i64) -> i32
+    ensures { λ r. ⌜ r ≡ keptOf x ⌝ }
+{
+    whole::limited(x, DISPLAY_LIMIT) as i32
+}
+
+// The weights of a good tick.
+fn weigh_good(s: Settings, q: Stability, w: Weighing, raw: i32, contact: bool) -> Weights
+    ensures { λ r. ⌜ r ≡ weighOf s q w (Raw.Tenths raw) contact ⌝ }
+{
+    let fine = whole::difference(raw, w.zero);
+    let divisions = whole::nearest(fine, 10);
+    let range = s.range;
+    let gross = kept(divisions * (range.division as i64));
+    let net = kept(whole::difference(gross, w.tare));
+    let overload = is_overloaded(range, divisions);
+    let rule = s.steadiness;
+    let stable = is_stable(rule, q);
+    Weights {
+        good: true,
+        contact,
+        raw,
+        fine,
+        divisions,
+        gross,
+        net,
+        overload,
+        stable,
+    }
+}
+
+// What a tick weighs.
+pub fn weigh(s: Settings, q: Stability, w: Weighing, raw: Raw, contact: bool) -> Weights
+    ensures { λ r. ⌜ r ≡ weighOf s q w raw contact ⌝ }
+{
+    match raw {
+        Raw::Bad => {
+            let rule = s.steadiness;
+            let stable = is_stable(rule, q);
+            Weights {
+                good: false,
+                contact,
+                raw: 0,
+                fine: 0,
+                divisions: 0,
+                gross: 0,
+                net: 0,
+                overload: false,
+                stable,
+            }
+        }
+        Raw::Tenths(t) => weigh_good(s, q, w, t, contact),
+    }
+}
+
+// A good tick without overload.
+pub fn is_fit(x: Weights) -> bool
+    ensures { λ r. ⌜ r ≡ fitOf x ⌝ }
+{
+    x.good && !x.overload
+}
+
+// The displayed weight.
+pub fn displayed(d: Display, x: Weights) -> i32
+    ensures { λ r. ⌜ r ≡ displayedOf d x ⌝ }
+{
+    match d {
+        Display::Gross => x.gross,
+        Display::Net => x.net,
+    }
+}

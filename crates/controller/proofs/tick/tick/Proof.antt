@@ -1,26 +1,19 @@
--- The state and the outputs are of the same request and weights.
+-- The two halves are the outline's tick.
 use borrow.Author.Needs.{needs}
-use Rattle.outline.specs.Tick.{tickOf, nextOf, servedOf}
+use Rattle.outline.specs.Tick.{tickOf, nextOf}
+use Rattle.controller.specs.Halves.{halfwayOf, finishOf}
 use Rattle.controller.proofs.tick.tick.Statement.{statement}
 use Rattle.controller.proofs.tick.tick.Tie as tie
 
-settled-at-requires : tie.Need-settled-at-requires
-settled-at-requires c κs = search needs
+half-tick-requires : tie.Need-half-tick-requires
+half-tick-requires c κs = search needs
 
-served-requires : tie.Need-served-requires
-served-requires c κs = search needs
-
-ended-requires : tie.Need-ended-requires
-ended-requires c κs = search needs
-
-outputs-requires : tie.Need-outputs-requires
-outputs-requires c κs = search needs
+finish-tick-requires : tie.Need-finish-tick-requires
+finish-tick-requires c κs = search needs
 
 returns : tie.Need-returns
-unfolding tickOf nextOf servedOf
-returns c = simp (c .outputs .ensures, c .before .ended .ensures, c .before .before .served .ensures, c .before .before .before .before .settled-at .ensures)
+unfolding tickOf nextOf halfwayOf finishOf
+returns c = simp (c .finish-tick .ensures, c .before .half-tick .ensures)
 
 pub tick-spec : {M : Type 1} → statement M
-tick-spec =
-    tie.close
-    (tie.spec settled-at-requires served-requires ended-requires outputs-requires returns)
+tick-spec = tie.close (tie.spec half-tick-requires finish-tick-requires returns)

@@ -1,0 +1,159 @@
+// The controller's benchmark: what a tick costs, not whether it is right. It reads blocks of 4,096 counts from standard input and
+// takes them in turn as idle ticks, as a running batch and as idle ticks again, which are busy tracking where the counts lie
+// near zero. At the end of the input it prints the ticks done and a digest of the last state.
+//
+// A count is three bytes, the least first.
+use controller::block::run_block;
+use controller::opening::open;
+use controller::opening::open_state;
+use controller::tick::next_state;
+use libc::STDIN_FILENO;
+use libc::STDOUT_FILENO;
+use outline::machine::Input;
+use outline::machine::State;
+use outline::requests::Request;
+use outline::settings::Given;
+use outline::settings::Opening;
+use outline::settings::Settings;
+use outline::stages::Setpoints;
+
+mod digest;
+
+// The counts of a block, and its bytes.
+const BLOCK: usize = 4_096;
+
+const BLOCK_BYTES: usize = 12_288;
+
+// Settings A of the outline, with tracking at every stable tick and the widest allowance, so that it stays busy.
+fn given() -> Given {
+    Given {
+        zero: 0,
+        span: 100_000,
+        capacity: 10_000,
+        weight: 10_000,
+        division: 1,
+        zeroing: 2,
+        tracktime: 1,
+        trackwidth: 45,
+        allowance: 10_000,
+        stabletime: 10,
+        stablewidth: 9,
+        mode: 1,
+        start: 0,
+        large: 0,
+        medium: 0,
+        small: 0,
+        judge: 0,
+        flow: 6_000,
+        address: 0,
+        board: 0,
+        low: 0,
+        high: 10_000,
+    }
+}
+
+// Setpoints that no weight reaches, so that the large flow lasts for a block.
+fn setpoints() -> Setpoints {
+    Setpoints {
+        target: 999_999,
+        fall: 10,
+        preliminary: 100,
+        optional: 1_000,
+        over: 5,
+        under: 5,
+        near: 20,
+    }
+}
+
+fn asked(s: Settings, st: State, request: Request) -> State {
+    next_state(
+        s,
+        st,
+        Input {
+            count: 0,
+            contact: false,
+            request,
+        },
+    )
+}
+
+// One tick before each block: the setpoints before the first of three, a start before the second, a stop before the third.
+fn prepared(s: Settings, st: State, turn: u64) -> State {
+    if turn % 3 == 0 {
+        return asked(s, st, Request::Set(setpoints()));
+    }
+    if turn % 3 == 1 {
+        return asked(s, st, Request::Start);
+    }
+    asked(s, st, Request::Stop)
+}
+
+fn count_of(a: u8, b: u8, c: u8) -> i32 {
+    ((a as u32) + (b as u32) * 256 + (c as u32) * 65_536) as i32
+}
+
+// The i-th count of a block; 0 past its end.
+fn count_at(bytes: &[u8], i: usize) -> i32 {
+    if BLOCK <= i {
+        return 0;
+    }
+    if bytes.len() < 3 * i + 3 {
+        return 0;
+    }
+    count_of(bytes[3 * i], bytes[3 * i + 1], bytes[3 * i + 2])
+}
+
+fn fill(bytes: &[u8], counts: &mut [i32]) {
+    let mut i = 0;
+    while i < counts.len() {
+        counts[i] = count_at(bytes, i);
+        i += 1;
+    }
+}
+
+fn print(name: &[u8], n: u64) {
+    io::write_all(STDOUT_FILENO, name);
+    io::print_decimal(STDOUT_FILENO, n);
+    io::write_all(STDOUT_FILENO, b"\n");
+}
+
+// One block, or the end of the input.
+enum Turn {
+    Done(State),
+    End,
+}
+
+fn turned(s: Settings, st: State, turn: u64, bytes: &mut [u8], counts: &mut [i32]) -> Turn {
+    let got = io::read_full(STDIN_FILENO, bytes);
+    if got < BLOCK_BYTES {
+        return Turn::End;
+    }
+    fill(bytes, counts);
+    let done = run_block(s, prepared(s, st, turn), counts, false);
+    let state = done.state;
+    Turn::Done(state)
+}
+
+// A proved loop has to end, and nothing says that the input does: so the turns are counted, up to a number that no run reaches.
+fn run(s: Settings) {
+    let mut held = open_state();
+    let mut bytes = [0u8; 12_288];
+    let mut counts = [0i32; 4096];
+    let mut turn: u64 = 0;
+    while turn < 1_000_000_000 {
+        match turned(s, held, turn, &mut bytes, &mut counts) {
+            Turn::Done(state) => held = state,
+            Turn::End => break,
+        }
+        turn += 1;
+    }
+    print(b"ticks=", turn * 4097);
+    print(b"digest=", digest::digest(held));
+}
+
+fn main() {
+    match open(given()) {
+        Opening::Accepted(s) => run(s),
+        Opening::Refused => print(b"refused=", 10),
+    }
+}
