@@ -1,0 +1,2 @@
+-- what holds of every tick with a line
+pub mod Kept

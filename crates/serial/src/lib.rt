@@ -1,0 +1,117 @@
+// A tick with a line: the line in the receive buffer is the tick's request, and its reply goes into the caller's reply buffer.
+ghost use mathlib.Core.Path.{_≡_};
+ghost use Rattle.outline.specs.Tick.{tickOf};
+ghost use Rattle.outline.specs.Lines.{requestOf};
+ghost use Rattle.outline.specs.Replies.{replyDue, toldOf, unaskedOf, lineTicked, lineTickOf, replyBuffer};
+ghost use Rattle.controller.specs.Halves.{halfwayOf, finishOf};
+ghost use Rattle.serial.specs.Kept.{ReplyBounded, BytesStay, AnsweredInOrder, RefusedLines, ReadBackOnLine};
+use controller::tick::Halfway;
+use outline::lines::Command;
+use outline::lines::LineAnswer;
+use outline::lines::LineTick;
+use outline::lines::Reply;
+use outline::machine::Input;
+use outline::machine::State;
+use outline::machine::Ticked;
+use outline::requests::Request;
+use outline::settings::Settings;
+use replies::Wrote;
+
+fn with_line(told: LineAnswer, length: usize, tick: Ticked) -> LineTick
+    ensures { λ r. ⌜ r ≡ lineTicked told length tick ⌝ }
+{
+    let answer = tick.answer;
+    let state = tick.state;
+    LineTick {
+        told,
+        length,
+        answer,
+        state,
+    }
+}
+
+// Steps 1 to 4 with what the command asks for. Nothing is kept of them yet: the reply may not fit.
+fn half_asked(s: Settings, st: State, count: i32, contact: bool, command: Command) -> Halfway
+    ensures { λ r. ⌜ r ≡ halfwayOf s st (record { count = count; contact = contact; request = requestOf command }) ⌝ }
+{
+    let request = commands::request_of(command);
+    controller::tick::half_tick(
+        s,
+        st,
+        Input {
+            count,
+            contact,
+            request,
+        },
+    )
+}
+
+// The reply shows what the fourth step left.
+fn due_after(command: Command, half: Halfway) -> Reply
+    ensures { λ r. ⌜ r ≡ replyDue command (half .settled) (half .weights) ⌝ }
+{
+    let settled = half.settled;
+    let weights = half.weights;
+    due::reply_due(command, settled, weights)
+}
+
+// The reply is written, so the tick goes on with what was asked for.
+fn finished(s: Settings, command: Command, half: Halfway, length: usize) -> LineTick
+    ensures { λ r. ⌜ r ≡ lineTicked (toldOf command (half .settled .outcome)) length (finishOf s half) ⌝ }
+{
+    let settled = half.settled;
+    let outcome = settled.outcome;
+    with_line(
+        due::told_of(command, outcome),
+        length,
+        controller::tick::finish_tick(s, half),
+    )
+}
+
+// The reply did not fit, so the tick is run anew as one without a request.
+fn unasked(s: Settings, st: State, count: i32, contact: bool) -> LineTick
+    ensures { λ r. ⌜ r ≡ lineTicked LineAnswer.ShortBuffer 0 (tickOf s st (unaskedOf count contact)) ⌝ }
+{
+    let ticked = controller::tick::tick(
+        s,
+        st,
+        Input {
+            count,
+            contact,
+            request: Request::Nothing,
+        },
+    );
+    with_line(LineAnswer::ShortBuffer, 0, ticked)
+}
+
+pub fn line_tick(
+    s: Settings,
+    st: State,
+    count: i32,
+    contact: bool,
+    receive: &[u8],
+    reply: &mut [u8],
+) -> LineTick
+    ensures answer { λ r. ⌜ r ≡ lineTickOf s st count contact (now (receive .entry)) (now (reply .entry)) ⌝ }
+    ensures bytes { λ r. ⌜ now (reply .exit) ≡ replyBuffer s st count contact (now (receive .entry)) (now (reply .entry)) ⌝ }
+{
+    let address = s.address;
+    let command = commands::command_of(receive, address);
+    let half = half_asked(s, st, count, contact, command);
+    match replies::write_reply(reply, address, due_after(command, half)) {
+        Wrote::Bytes(length) => finished(s, command, half, length),
+        Wrote::Short => unasked(s, st, count, contact),
+    }
+}
+
+// What holds of every tick with a line, whatever it is given. It does no work: it stands here so that the check's list names the
+// statements, and misses them if a proof goes.
+pub fn every_line()
+    ensures bounded { λ r. ⌜ ReplyBounded ⌝ }
+    ensures bytes { λ r. ⌜ BytesStay ⌝ }
+    ensures order { λ r. ⌜ AnsweredInOrder ⌝ }
+    ensures refused { λ r. ⌜ RefusedLines ⌝ }
+    ensures read_back { λ r. ⌜ ReadBackOnLine ⌝ }
+{
+    outline::every_run();
+}
