@@ -3,12 +3,12 @@
 // near zero. At the end of the input it prints the ticks done and a digest of the last state.
 //
 // A count is three bytes, the least first.
-use controller::block::run_block;
-use controller::opening::open;
-use controller::opening::open_state;
+use blocks::run_block;
 use controller::tick::next_state;
 use libc::STDIN_FILENO;
 use libc::STDOUT_FILENO;
+use opening::open;
+use opening::open_state;
 use outline::machine::Input;
 use outline::machine::State;
 use outline::requests::Request;

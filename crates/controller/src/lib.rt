@@ -1,5 +1,3 @@
-// The controller: an opening, one tick in the outline's six steps, and blocks. Settings and state go in by value, and the state comes
-// back; nothing is asked of a caller.
-pub mod block;
-pub mod opening;
+// The controller: one tick in the outline's six steps. Settings and state go in by value, and the state comes back; nothing is asked of a
+// caller.
 pub mod tick;

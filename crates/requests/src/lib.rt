@@ -1,28 +1,95 @@
 // Step 4: the tick's request, and what it does where it is accepted.
 ghost use mathlib.Core.Path.{_≡_};
-ghost use Rattle.outline.specs.Requests.{plainly, holding, keying, closing, settling, settledBy};
-ghost use Rattle.outline.specs.Parts.{withDisplay};
+ghost use mathlib.Core.List.{[], _∷_};
+ghost use Rattle.outline.specs.Requests.{row1, row6, row7, firstOf, plainly, holding, keying, closing, settling, settledBy};
+ghost use Rattle.outline.specs.Parts.{withDisplay, withSetpoints};
 use outline::daybook::Closed;
 use outline::machine::Settled;
 use outline::machine::State;
 use outline::requests::Outcome;
+use outline::requests::Refusal;
 use outline::requests::Request;
 use outline::settings::Settings;
 use outline::stages::Setpoints;
 use outline::weight::Display;
 use outline::weight::Weights;
 use parts::with_book;
-use parts::with_display;
 use parts::with_sequence;
-use parts::with_setpoints;
 use parts::with_totals;
 use parts::with_weighing;
-use rulings::close_ruling;
 use rulings::fit_ruling;
 use rulings::idle_ruling;
-use rulings::set_ruling;
 use rulings::still_ruling;
-use rulings::undo_ruling;
+
+// ---- rulings of a single row
+fn set_ruling(kept: bool) -> Outcome
+    ensures { λ r. ⌜ r ≡ firstOf (row6 kept ∷ []) ⌝ }
+{
+    if kept {
+        return Outcome::Done;
+    }
+    Outcome::Refused(Refusal::SetpointRules)
+}
+
+fn undo_ruling(st: State) -> Outcome
+    ensures { λ r. ⌜ r ≡ firstOf (row7 st ∷ []) ⌝ }
+{
+    let totals = st.totals;
+    if totals::has_none_back(totals) {
+        return Outcome::Refused(Refusal::NothingToTakeBack);
+    }
+    Outcome::Done
+}
+
+fn close_ruling(x: Weights) -> Outcome
+    ensures { λ r. ⌜ r ≡ firstOf (row1 x ∷ []) ⌝ }
+{
+    if x.good {
+        return Outcome::Done;
+    }
+    Outcome::Refused(Refusal::BadTick)
+}
+
+// ---- the state with a part that no other crate makes anew
+fn with_display(st: State, x: Display) -> State
+    ensures { λ r. ⌜ r ≡ withDisplay st x ⌝ }
+{
+    let book = st.book;
+    let stability = st.stability;
+    let weighing = st.weighing;
+    let setpoints = st.setpoints;
+    let sequence = st.sequence;
+    let totals = st.totals;
+    State {
+        book,
+        stability,
+        weighing,
+        display: x,
+        setpoints,
+        sequence,
+        totals,
+    }
+}
+
+fn with_setpoints(st: State, x: Setpoints) -> State
+    ensures { λ r. ⌜ r ≡ withSetpoints st x ⌝ }
+{
+    let book = st.book;
+    let stability = st.stability;
+    let weighing = st.weighing;
+    let display = st.display;
+    let sequence = st.sequence;
+    let totals = st.totals;
+    State {
+        book,
+        stability,
+        weighing,
+        display,
+        setpoints: x,
+        sequence,
+        totals,
+    }
+}
 
 // ---- what an accepted request does
 fn done(st: State) -> Settled

@@ -2,7 +2,7 @@
 ghost use mathlib.Core.Path.{_≡_};
 ghost use mathlib.Core.Bool.{cond};
 ghost use mathlib.Core.List.{[], _∷_};
-ghost use Rattle.outline.specs.Requests.{idleNow, row1, row2, row3, row4, row5, row6, row7, firstOf};
+ghost use Rattle.outline.specs.Requests.{idleNow, row1, row2, row3, row4, row5, firstOf};
 use outline::machine::State;
 use outline::requests::Outcome;
 use outline::requests::Refusal;
@@ -17,8 +17,7 @@ pub fn is_idle_now(st: State) -> bool
     batch::is_idle(stage)
 }
 
-// ---- rulings: the first row that applies, in numerical order; `rest` is what the rows after these say
-// Rows 1 and 2.
+// Rows 1 and 2; `rest` is what the rows after these say.
 pub fn fit_ruling(x: Weights, rest: Outcome) -> Outcome
     ensures { λ r. ⌜ r ≡ cond (row1 x .applies) (Outcome.Refused (row1 x .number)) (cond (row2 x .applies) (Outcome.Refused (row2 x .number)) rest) ⌝ }
 {
@@ -57,32 +56,4 @@ pub fn still_ruling(st: State, x: Weights, inside: bool) -> Outcome
         return Outcome::Done;
     }
     Outcome::Refused(Refusal::OutsideRules)
-}
-
-pub fn set_ruling(kept: bool) -> Outcome
-    ensures { λ r. ⌜ r ≡ firstOf (row6 kept ∷ []) ⌝ }
-{
-    if kept {
-        return Outcome::Done;
-    }
-    Outcome::Refused(Refusal::SetpointRules)
-}
-
-pub fn undo_ruling(st: State) -> Outcome
-    ensures { λ r. ⌜ r ≡ firstOf (row7 st ∷ []) ⌝ }
-{
-    let totals = st.totals;
-    if totals::has_none_back(totals) {
-        return Outcome::Refused(Refusal::NothingToTakeBack);
-    }
-    Outcome::Done
-}
-
-pub fn close_ruling(x: Weights) -> Outcome
-    ensures { λ r. ⌜ r ≡ firstOf (row1 x ∷ []) ⌝ }
-{
-    if x.good {
-        return Outcome::Done;
-    }
-    Outcome::Refused(Refusal::BadTick)
 }

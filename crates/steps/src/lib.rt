@@ -1,18 +1,40 @@
 // The steps of a tick before and after the request: 2 and 3, then 5 and 6.
 ghost use mathlib.Core.Path.{_≡_};
+ghost use Rattle.outline.specs.Parts.{withStability};
 ghost use Rattle.outline.specs.Tick.{enteredOf, weightsOf, withTracking, finishedOf, steppedOf, endedOf};
 use outline::machine::Settled;
 use outline::machine::State;
 use outline::settings::Settings;
 use outline::stages::Advanced;
 use outline::weight::Raw;
+use outline::weight::Stability;
 use outline::weight::Weights;
 use parts::with_book;
 use parts::with_sequence;
-use parts::with_stability;
 use parts::with_totals;
 use parts::with_weighing;
 use rulings::is_idle_now;
+
+// The state with a new stability.
+fn with_stability(st: State, x: Stability) -> State
+    ensures { λ r. ⌜ r ≡ withStability st x ⌝ }
+{
+    let book = st.book;
+    let weighing = st.weighing;
+    let display = st.display;
+    let setpoints = st.setpoints;
+    let sequence = st.sequence;
+    let totals = st.totals;
+    State {
+        book,
+        stability: x,
+        weighing,
+        display,
+        setpoints,
+        sequence,
+        totals,
+    }
+}
 
 // Step 2, and of step 3 the stability. The change of raw is from the last good raw as it was before this tick.
 pub fn entered(s: Settings, st: State, raw: Raw, contact: bool) -> State
