@@ -12,6 +12,7 @@ pub mod AnalogRange
 -- figures
 pub mod Figures
 pub mod Worked
+pub mod LogFigures
 pub mod Rules
 -- what stays true: the book, requests
 pub mod BookStep

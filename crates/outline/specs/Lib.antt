@@ -14,9 +14,11 @@ pub mod Tick
 pub mod Numbers
 pub mod Lines
 pub mod Replies
+pub mod Log
 -- what is shown of them
 pub mod Figures
 pub mod Worked
+pub mod LogFigures
 pub mod Rules
 pub mod Owed
 pub mod AnalogOwed

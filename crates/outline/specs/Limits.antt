@@ -75,6 +75,13 @@ batchLimit = 99999999
 abbrev pub lineLimit : ℕ
 lineLimit = 64
 
+-- the digits of a number in a log, and the bytes of a request there
+abbrev pub numberDigits : ℕ
+numberDigits = 9
+
+abbrev pub requestLimit : ℕ
+requestLimit = 100
+
 -- ---- guards: limits that the types need and that no run from an accepted opening meets
 -- a raw beyond it makes a bad tick
 abbrev pub rawLimit : ℕ

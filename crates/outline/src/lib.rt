@@ -2,6 +2,7 @@
 // Nothing here does a tick's work; the crates above do, and promise that they do what the definitions say.
 ghost use Rattle.outline.specs.Figures.{Starred, Runs, Table};
 ghost use Rattle.outline.specs.Worked.{Batches, Letters, Lines};
+ghost use Rattle.outline.specs.LogFigures.{Logs};
 ghost use Rattle.outline.specs.Rules.{Weighed, Refused, Staged, Booked};
 ghost use Rattle.outline.specs.Owed.{RawLaw, SetpointLaw, TimedLaw};
 ghost use Rattle.outline.specs.AnalogOwed.{ScaleLaw, AnalogLaws};
@@ -10,6 +11,7 @@ ghost use Rattle.outline.specs.StaysTrue.{Balance, SumsOfHistory, Nothin
 pub mod analog;
 pub mod daybook;
 pub mod lines;
+pub mod log;
 pub mod machine;
 pub mod requests;
 pub mod settings;
@@ -25,6 +27,7 @@ pub fn paper_holds()
     ensures batches { λ r. ⌜ Batches ⌝ }
     ensures letters { λ r. ⌜ Letters ⌝ }
     ensures lines { λ r. ⌜ Lines ⌝ }
+    ensures logs { λ r. ⌜ Logs ⌝ }
     ensures weighed { λ r. ⌜ Weighed ⌝ }
     ensures refused { λ r. ⌜ Refused ⌝ }
     ensures staged { λ r. ⌜ Staged ⌝ }

@@ -1,6 +1,7 @@
 -- `paper_holds` does nothing; what it ensures is proved beside it, each in its own file. Assumes nothing.
 use Rattle.outline.proofs.Figures.{starred, runs, table}
 use Rattle.outline.proofs.Worked.{batches, letters, lines}
+use Rattle.outline.proofs.LogFigures.{logs}
 use Rattle.outline.proofs.Rules.{weighed, refused, staged, booked}
 use Rattle.outline.proofs.RawLaw.{raw-law}
 use Rattle.outline.proofs.SetpointLaw.{setpoint-law}
@@ -11,7 +12,7 @@ use Rattle.outline.proofs.paper_holds.Statement.{statement}
 use Rattle.outline.proofs.paper_holds.Tie as tie
 
 returns : tie.Need-returns
-returns c = (starred, (runs, (table, (batches, (letters, (lines, (weighed, (refused, (staged, (booked, (raw-law, (setpoint-law, (timed-law, (scale-law, analog-laws))))))))))))))
+returns c = (starred, (runs, (table, (batches, (letters, (lines, (logs, (weighed, (refused, (staged, (booked, (raw-law, (setpoint-law, (timed-law, (scale-law, analog-laws)))))))))))))))
 
 pub paper-holds-spec : {M : Type 1} → statement M
 paper-holds-spec = tie.close (tie.spec returns)

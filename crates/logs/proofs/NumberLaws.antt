@@ -1,0 +1,38 @@
+-- The number at a place, by the place where its digits begin and the count of them.
+use Prim.Native.Nat.{ℕ, suc, _+_, _≤_, _<_}
+use mathlib.Core.Path.{_≡_, sym, _∙_}
+use mathlib.Core.List.{List}
+use mathlib.Core.Bool.{Bool, true, false, cond, _&&_}
+use native.Mathlib.Omega.{arith}
+use borrow.Author.Tests.{le-leb, lt-leb}
+use lib.Dec.{leb}
+use lib.IntN.{ℤ}
+use lib.ListN.{length, take, drop, drop-of-length-le, List·getD-eq-default}
+use Rattle.outline.specs.Limits.{numberDigits}
+use Rattle.outline.specs.Log.{isMinus, digitsFrom, digitRun, valueFrom, signedOf, numberAt}
+use Rattle.outline.specs.declared.log.LogNumber.the-variants.{Number, Unreadable}
+
+-- past the line's end there is no digit
+pub beyond : (line : List ℕ) (at : ℕ) → length line ≤ at → Unreadable ≡ numberAt line at
+unfolding numberAt
+beyond line at h = simp (List·getD-eq-default line 0 h, drop-of-length-le line h)
+
+-- a minus has a place behind it that is no later than the line's end
+pub from-within : (m : Bool) (at n : ℕ) → at < n → cond m (suc at) at ≤ n
+from-within true at n h = h
+from-within false at n h = omega arith
+
+-- the digits begin at f; s is what stands from there on, and n counts the digits of it
+module _ (line : List ℕ) (at f n : ℕ) (s : List ℕ) (e : f ≡ digitsFrom line at) (d : s ≡ drop f line) (k : n ≡ digitRun s) where
+  split : numberAt line at ≡ cond (leb 1 n && leb n numberDigits) (Number (signedOf (isMinus line at) (valueFrom 0 (take n s))) (f + n)) Unreadable
+  unfolding numberAt
+  split = rw (k, d, e)
+
+  pub no-digit : n < 1 → Unreadable ≡ numberAt line at
+  no-digit h = sym (split ∙ simp (lt-leb 1 n h))
+
+  pub many-digits : numberDigits < n → Unreadable ≡ numberAt line at
+  many-digits h = sym (split ∙ simp (le-leb 1 n (omega arith), lt-leb n numberDigits h))
+
+  pub number-read : (z : ℤ) → z ≡ signedOf (isMinus line at) (valueFrom 0 (take n s)) → 1 ≤ n → n ≤ numberDigits → Number z (f + n) ≡ numberAt line at
+  number-read z q h l = sym (split ∙ simp (le-leb 1 n h, le-leb n numberDigits l, q))

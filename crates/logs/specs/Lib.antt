@@ -1,0 +1,2 @@
+-- A law that the crates above cite
+pub mod RequestPlace

@@ -1,0 +1,14 @@
+-- The tick of the input without a request; the count's bits hold the count.
+use borrow.Author.Needs.{needs}
+use mir.Facts.{toZ-ofZ}
+use Rattle.logticks.proofs.silent_tick.Statement.{statement}
+use Rattle.logticks.proofs.silent_tick.Tie as tie
+
+tick-requires : tie.Need-tick-requires
+tick-requires c κs = search needs
+
+returns : tie.Need-returns
+returns c = simp (c .before .before .tick .ensures, toZ-ofZ (c .before .before .before .fits .count))
+
+pub silent-tick-spec : {M : Type 1} → statement M
+silent-tick-spec = tie.close (tie.spec tick-requires returns)

@@ -1,0 +1,103 @@
+-- The outline's section "Figures on both sides", its last part: the lines that the ticket program reads. A line is the list of its bytes,
+-- without the LF that ends it.
+use Prim.Native.Nat.{ℕ, suc, _+_, _-_, _*_}
+use mathlib.Core.List.{List, [], _∷_, _++_}
+use mathlib.Core.Bool.{Bool, cond, _&&_, _||_}
+use lib.ListN.{length, getD, take, drop}
+use lib.Dec.{leb, eqb}
+use lib.IntN.{ℤ, pos, negℤ}
+use Rattle.outline.specs.declared.settings.Settings.{Settings}
+use Rattle.outline.specs.declared.machine.State.{State}
+use Rattle.outline.specs.declared.lines.LineTick.{LineTick}
+use Rattle.outline.specs.declared.lines.LineAnswer.the-variants as told
+use Rattle.outline.specs.declared.log.LogNumber.{LogNumber}
+use Rattle.outline.specs.declared.log.LogNumber.the-variants as number
+use Rattle.outline.specs.declared.log.LogLine.{LogLine}
+use Rattle.outline.specs.declared.log.LogLine.the-variants as logline
+use Rattle.outline.specs.declared.log.LogTick.{LogTick}
+use Rattle.outline.specs.declared.log.LogTick.the-variants as logtick
+use Rattle.outline.specs.Limits.{numberDigits, requestLimit}
+use Rattle.outline.specs.Lines.{isDigit}
+use Rattle.outline.specs.Tick.{tickOf}
+use Rattle.outline.specs.Replies.{unaskedOf, lineTicked, lineTickOf, replyBuffer}
+
+-- ---- a whole number
+-- "an optional minus"
+abbrev pub isMinus : List ℕ → ℕ → Bool
+isMinus line at = eqb (getD line at 0) 45
+
+-- where the digits begin
+abbrev pub digitsFrom : List ℕ → ℕ → ℕ
+digitsFrom line at = cond (isMinus line at) (suc at) at
+
+-- how many digits a list begins with
+abbrev pub digitRun : List ℕ → ℕ
+digitRun [] = 0
+digitRun (x ∷ s) = cond (isDigit x) (suc (digitRun s)) 0
+
+-- the number whose first digits say v and whose other digits are the list
+abbrev pub valueFrom : ℕ → List ℕ → ℕ
+valueFrom v [] = v
+valueFrom v (x ∷ s) = valueFrom (v * 10 + (x - 48)) s
+
+abbrev pub signedOf : Bool → ℕ → ℤ
+signedOf minus v = cond minus (negℤ (pos v)) (pos v)
+
+-- "an optional minus and 1 to 9 digits", from a place of the line on, as far as the digits go
+unfoldable pub numberAt : List ℕ → ℕ → LogNumber
+numberAt line at =
+    let from = digitsFrom line at in
+    let n = digitRun (drop from line) in
+    cond (leb 1 n && leb n numberDigits) (number.Number (signedOf (isMinus line at) (valueFrom 0 (take n (drop from line)))) (from + n))
+    number.Unreadable
+
+-- ---- a line
+-- "0 or 1 (closed)"
+abbrev pub isContact : ℕ → Bool
+isContact b = eqb b 48 || eqb b 49
+
+-- what stands behind the count: a space, the contact, a space, and "a serial command of 1 to 100 bytes, running to the line's end"
+abbrev pub isRest : List ℕ → ℕ → Bool
+isRest line at =
+    eqb (getD line at 0) 32 && isContact (getD line (at + 1) 0) && eqb (getD line (at + 2) 0) 32
+    && leb (at + 4) (length line) && leb (length line) (at + 3 + requestLimit)
+
+abbrev pub behindCount : List ℕ → LogNumber → LogLine
+behindCount line (number.Number count at) =
+    cond (isRest line at) (logline.Tick count (eqb (getD line (at + 1) 0) 49) (at + 3)) logline.Unreadable
+behindCount line number.Unreadable = logline.Unreadable
+
+-- "lines `count contact request` .., parted by single spaces"
+unfoldable pub logLineOf : List ℕ → LogLine
+logLineOf line = behindCount line (numberAt line 0)
+
+-- "`--` for none"
+unfoldable pub isNone : List ℕ → Bool
+isNone request = eqb (length request) 2 && eqb (getD request 0 0) 45 && eqb (getD request 1 0) 45
+
+-- ---- its tick
+-- "or else a serial command .. given with CR LF"
+abbrev pub receivedOf : List ℕ → List ℕ
+receivedOf request = request ++ (13 ∷ 10 ∷ [])
+
+-- the tick of a count, a contact and a request; without a request it has no line and no reply
+unfoldable pub requestTick : Settings → State → ℤ → Bool → List ℕ → List ℕ → LineTick
+requestTick s st count contact request buffer =
+    cond (isNone request) (lineTicked told.Done 0 (tickOf s st (unaskedOf count contact)))
+    (lineTickOf s st count contact (receivedOf request) buffer)
+
+abbrev pub tickOfLine : Settings → State → List ℕ → LogLine → List ℕ → LogTick
+tickOfLine s st line (logline.Tick count contact at) buffer = logtick.Ticked (requestTick s st count contact (drop at line) buffer)
+tickOfLine s st line logline.Unreadable buffer = logtick.Unreadable
+
+unfoldable pub logTickOf : Settings → State → List ℕ → List ℕ → LogTick
+logTickOf s st line buffer = tickOfLine s st line (logLineOf line) buffer
+
+-- the reply buffer after it
+abbrev pub bufferOfLine : Settings → State → List ℕ → LogLine → List ℕ → List ℕ
+bufferOfLine s st line (logline.Tick count contact at) buffer =
+    cond (isNone (drop at line)) buffer (replyBuffer s st count contact (receivedOf (drop at line)) buffer)
+bufferOfLine s st line logline.Unreadable buffer = buffer
+
+unfoldable pub logBuffer : Settings → State → List ℕ → List ℕ → List ℕ
+logBuffer s st line buffer = bufferOfLine s st line (logLineOf line) buffer

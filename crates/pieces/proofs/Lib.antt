@@ -1,0 +1,2 @@
+-- one turn of each loop
+mod Turns

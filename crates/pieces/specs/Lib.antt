@@ -1,0 +1,3 @@
+pub mod Pieces
+-- laws that the programs cite
+pub mod Ends
