@@ -1,56 +1,18 @@
-// The sequence of a batch: how it opens, starts and stops, its flow clock, and one step a tick.
+// Step 6: the flow clock, the errors that end a batch, and the move that its stage makes.
 ghost use mathlib.Core.Path.{_≡_};
 ghost use mathlib.Core.Bool.{cond};
-ghost use Rattle.outline.specs.declared.stages.SequenceError.{SequenceError};
-ghost use Rattle.outline.specs.declared.stages.Judgement.{Judgement};
-ghost use Rattle.outline.specs.Stages.{openSequence, idleOf, flowingOf, lateOf, failedOf, clockOf, startSequence, stopSequence, landOf, advanceOf};
+ghost use Rattle.outline.specs.Stages.{flowingOf, lateOf, clockOf, landOf, advanceOf};
 use outline::settings::Batching;
 use outline::stages::Advanced;
 use outline::stages::Facts;
-use outline::stages::Judgement;
 use outline::stages::Move;
 use outline::stages::Sequence;
 use outline::stages::SequenceError;
 use outline::stages::Setpoints;
 use outline::stages::Stage;
+use sequence::failed;
+use sequence::is_idle;
 use stages::moved;
-
-// The sequence of an opening.
-pub fn open_sequence() -> Sequence
-    ensures { λ r. ⌜ r ≡ openSequence ⌝ }
-{
-    fresh(Stage::Idle)
-}
-
-// A sequence that enters the stage, with no error and no judgement.
-fn fresh(stage: Stage) -> Sequence
-    ensures { λ r. ⌜ r ≡ (record { stage = stage; clock = 0; error = SequenceError.None; judgement = Judgement.None }) ⌝ }
-{
-    Sequence {
-        stage,
-        clock: 0,
-        error: SequenceError::None,
-        judgement: Judgement::None,
-    }
-}
-
-// Stage 00.
-pub fn is_idle(stage: Stage) -> bool
-    ensures { λ r. ⌜ r ≡ idleOf stage ⌝ }
-{
-    match stage {
-        Stage::Idle => true,
-        Stage::StartDelay(_) => false,
-        Stage::LargeDisable(_) => false,
-        Stage::LargeFlow => false,
-        Stage::MediumDisable(_) => false,
-        Stage::MediumFlow => false,
-        Stage::SmallDisable(_) => false,
-        Stage::SmallFlow => false,
-        Stage::JudgeDelay(_) => false,
-        Stage::JudgeWait => false,
-    }
-}
 
 // 04 to 11, where the flow clock runs.
 fn is_flowing(stage: Stage) -> bool
@@ -93,37 +55,6 @@ fn clock_after(b: Batching, q: Sequence) -> u16
         return q.clock + 1;
     }
     0
-}
-
-// An error: to 00.
-fn failed(q: Sequence, e: SequenceError) -> Sequence
-    ensures { λ r. ⌜ r ≡ failedOf q e ⌝ }
-{
-    let judgement = q.judgement;
-    Sequence {
-        stage: Stage::Idle,
-        clock: 0,
-        error: e,
-        judgement,
-    }
-}
-
-// An accepted start.
-pub fn start_sequence() -> Sequence
-    ensures { λ r. ⌜ r ≡ startSequence ⌝ }
-{
-    fresh(Stage::StartDelay(0))
-}
-
-// A stop: error 4 in 03 to 11, nothing in 00.
-pub fn stop_sequence(q: Sequence) -> Sequence
-    ensures { λ r. ⌜ r ≡ stopSequence q ⌝ }
-{
-    let stage = q.stage;
-    if is_idle(stage) {
-        return q;
-    }
-    failed(q, SequenceError::Stopped)
 }
 
 // The sequence after a move, with the flow clock of this tick.

@@ -37,7 +37,7 @@ fn of_totals(h: u64, t: Totals) -> u64 {
     mixed(mixed(h, t.total), t.count as u64)
 }
 
-pub fn digest(st: State) -> u64 {
+pub(crate) fn digest(st: State) -> u64 {
     let sequence = st.sequence;
     let stability = st.stability;
     let parts = of_totals(of_weighing(of_book(0, st.book), st.weighing), st.totals);

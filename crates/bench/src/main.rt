@@ -4,7 +4,7 @@
 //
 // A count is three bytes, the least first.
 use blocks::run_block;
-use controller::tick::next_state;
+use controller::next_state;
 use libc::STDIN_FILENO;
 use libc::STDOUT_FILENO;
 use opening::open;

@@ -1,29 +1,42 @@
 // A block of counts, lent at once: the ticks one after another, with one contact and no requests.
 ghost use mathlib.Core.Path.{_≡_};
+ghost use Rattle.outline.specs.Requests.{plainly};
 ghost use Rattle.outline.specs.Tick.{countIn, blockOf};
-use controller::tick::next_state;
+use ending::ended;
+use entering::entered;
+use entering::weights_of;
+use outline::daybook::Closed;
 use outline::machine::BlockAnswer;
 use outline::machine::Blocked;
-use outline::machine::Input;
+use outline::machine::Settled;
 use outline::machine::State;
-use outline::requests::Request;
+use outline::requests::Outcome;
 use outline::settings::Settings;
 
 // The counts of one block.
 const BLOCK_LIMIT: usize = 4_096;
 
+fn unasked(st: State) -> Settled
+    ensures { λ r. ⌜ r ≡ plainly st ⌝ }
+{
+    Settled {
+        outcome: Outcome::Done,
+        state: st,
+        held: false,
+        keyed: false,
+        closed: Closed::Nothing,
+    }
+}
+
+// With no request step 4 leaves the state as it is, and the weights serve to the end.
 fn count_in(s: Settings, contact: bool, st: State, count: i32) -> State
     ensures { λ r. ⌜ r ≡ countIn s contact st count ⌝ }
 {
-    next_state(
-        s,
-        st,
-        Input {
-            count,
-            contact,
-            request: Request::Nothing,
-        },
-    )
+    let cal = s.calibration;
+    let raw = raw::raw_of(cal, count);
+    let state = entered(s, st, raw, contact);
+    let x = weights_of(s, state, raw, contact);
+    ended(s, unasked(state), x)
 }
 
 pub fn run_block(s: Settings, st: State, counts: &[i32], contact: bool) -> Blocked

@@ -1,23 +1,11 @@
-// What a receive buffer asks for: its prefix, its command, and the request that the command makes of a tick.
+// What a receive buffer asks for: its prefix and its command. Every buffer is taken, of any bytes.
 ghost use mathlib.Core.Path.{_≡_};
-ghost use Rattle.outline.specs.Lines.{prefixLength, isPrefixed, spokenOf, commandOf, wordRequest, requestOf};
+ghost use Rattle.outline.specs.Lines.{isPrefixed, spokenOf, commandOf};
 use outline::lines::Command;
 use outline::lines::LineKind;
-use outline::lines::Word;
-use outline::requests::Request;
 
 mod body;
 mod letters;
-
-// "@" and two digits.
-const PREFIX_LENGTH: u8 = 3;
-
-// The bytes of the prefix that a line to an address begins with. Address 0 looks for none.
-pub fn prefix_length(address: u8) -> u8
-    ensures { λ r. ⌜ r ≡ prefixLength address ⌝ }
-{
-    if 0 < address { PREFIX_LENGTH } else { 0 }
-}
 
 // A line too short for a prefix has none, since a byte past its end is neither "@" nor a digit.
 fn is_prefixed(line: &[u8], address: u8) -> bool
@@ -43,7 +31,7 @@ fn spoken(line: &[u8], address: u8) -> Command
     ensures { λ r. ⌜ r ≡ spokenOf (now (line .entry)) address ⌝ }
 {
     if is_prefixed(line, address) {
-        body::body(line, prefix_length(address))
+        body::body(line, prefix::prefix_length(address))
     } else {
         Command::OtherAddress
     }
@@ -59,41 +47,5 @@ pub fn command_of(buffer: &[u8], address: u8) -> Command
         LineKind::Long => Command::LongLine,
         LineKind::Empty => command,
         LineKind::Text => command,
-    }
-}
-
-// The three reads ask nothing of the tick: they are answered from what it shows.
-fn word_request(w: Word) -> Request
-    ensures { λ r. ⌜ r ≡ wordRequest w ⌝ }
-{
-    match w {
-        Word::ReadWeight => Request::Nothing,
-        Word::ReadTotal => Request::Nothing,
-        Word::ReadSetpoints => Request::Nothing,
-        Word::Zero => Request::Zero,
-        Word::Tare => Request::Tare,
-        Word::TareClear => Request::TareClear,
-        Word::ShowGross => Request::ShowGross,
-        Word::ShowNet => Request::ShowNet,
-        Word::Start => Request::Start,
-        Word::Stop => Request::Stop,
-        Word::TotalClear => Request::TotalClear,
-        Word::Undo => Request::Undo,
-        Word::DayClose => Request::DayClose,
-    }
-}
-
-// A line that is refused asks for nothing, so that its tick runs as one without a request.
-pub fn request_of(c: Command) -> Request
-    ensures { λ r. ⌜ r ≡ requestOf c ⌝ }
-{
-    match c {
-        Command::Do(w) => word_request(w),
-        Command::Set(p) => Request::Set(p),
-        Command::NoLine => Request::Nothing,
-        Command::LongLine => Request::Nothing,
-        Command::OtherAddress => Request::Nothing,
-        Command::Malformed => Request::Nothing,
-        Command::Unknown => Request::Nothing,
     }
 }

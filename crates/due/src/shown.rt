@@ -27,7 +27,7 @@ fn is_minus(fit: bool, displayed: i32, x: Weights) -> bool
     if x.overload { x.gross < 0 } else { false }
 }
 
-pub fn shown_of(d: Display, x: Weights) -> Shown
+pub(crate) fn shown_of(d: Display, x: Weights) -> Shown
     ensures { λ r. ⌜ r ≡ shownOf d x ⌝ }
 {
     let fit = weight::is_fit(x);

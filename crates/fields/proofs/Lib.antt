@@ -1,2 +1,2 @@
--- Laws that the proofs of this crate share
-pub mod DigitLaws
+-- Laws that a proof of this crate cites
+pub mod FieldLaws

@@ -2,19 +2,13 @@
 ghost use mathlib.Core.Path.{_≡_};
 ghost use Prim.Native.Nat.{_≤_};
 ghost use lib.ListN.{length};
-ghost use Rattle.outline.specs.Lines.{isDigit, numberFrom, fieldOf, sevenOf, fieldsOf};
+ghost use Rattle.outline.specs.Lines.{numberFrom, fieldOf, sevenOf, fieldsOf};
 use outline::lines::Digits;
 use outline::lines::Fields;
 use outline::stages::Setpoints;
 
 // The digits of a field. So many always fit a number of 32 bits.
 const FIELD_WIDTH: usize = 6;
-
-fn is_digit(b: u8) -> bool
-    ensures { λ r. ⌜ r ≡ isDigit b ⌝ }
-{
-    if 48 <= b { b <= 57 } else { false }
-}
 
 // The one reader of digits. It is lent a field and knows nothing of the line around it.
 fn number_of(field: &[u8]) -> Digits
@@ -25,7 +19,7 @@ fn number_of(field: &[u8]) -> Digits
     let mut i: usize = 0;
     while i < field.len() {
         let b = field[i];
-        if is_digit(b) {
+        if digits::is_digit(b) {
             v = v * 10 + ((b - 48) as u32);
         } else {
             return Digits::NotDigits;
@@ -36,7 +30,7 @@ fn number_of(field: &[u8]) -> Digits
 }
 
 // The field at a place of the line; no number where the line ends within it. The test subtracts, since a sum could wrap.
-pub fn field(line: &[u8], at: usize) -> Digits
+fn field(line: &[u8], at: usize) -> Digits
     ensures { λ r. ⌜ r ≡ fieldOf (now (line .entry)) at ⌝ }
 {
     if line.len() < FIELD_WIDTH {

@@ -1,4 +1,2 @@
--- Laws that the proofs of this crate share
-pub mod DigitLaws
-pub mod NumberLaws
+-- A law that a proof of this crate cites
 pub mod RestLaws

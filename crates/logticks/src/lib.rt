@@ -45,7 +45,7 @@ fn put_received(receive: &mut [u8], request: &[u8]) -> usize
 fn silent_tick(s: Settings, st: State, count: i32, contact: bool) -> LineTick
     ensures { λ r. ⌜ r ≡ lineTicked LineAnswer.Done 0 (tickOf s st (unaskedOf count contact)) ⌝ }
 {
-    let ticked = controller::tick::tick(
+    let ticked = controller::tick(
         s,
         st,
         Input {
@@ -96,10 +96,9 @@ fn request_tick(
     ensures bytes { λ r. ⌜ now (reply .exit) ≡ cond (isNone (now (request .entry))) (now (reply .entry)) (replyBuffer s st count contact (receivedOf (now (request .entry))) (now (reply .entry))) ⌝ }
 {
     if logs::is_none(request) {
-        silent_tick(s, st, count, contact)
-    } else {
-        command_tick(s, st, count, contact, request, reply)
+        return silent_tick(s, st, count, contact);
     }
+    command_tick(s, st, count, contact, request, reply)
 }
 
 // A line that can't be read makes no tick and leaves the reply buffer as it is.

@@ -33,7 +33,7 @@ pub fn open_state() -> State
         },
         display: Display::Gross,
         setpoints: setpoints::open_setpoints(),
-        sequence: batch::open_sequence(),
+        sequence: sequence::open_sequence(),
         totals: totals::clear_totals(),
     }
 }

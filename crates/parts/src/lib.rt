@@ -7,82 +7,30 @@ use outline::stages::Sequence;
 use outline::stages::Totals;
 use outline::weight::Weighing;
 
-pub fn with_book(st: State, x: Book) -> State
+pub fn with_book(mut st: State, x: Book) -> State
     ensures { λ r. ⌜ r ≡ withBook st x ⌝ }
 {
-    let stability = st.stability;
-    let weighing = st.weighing;
-    let display = st.display;
-    let setpoints = st.setpoints;
-    let sequence = st.sequence;
-    let totals = st.totals;
-    State {
-        book: x,
-        stability,
-        weighing,
-        display,
-        setpoints,
-        sequence,
-        totals,
-    }
+    st.book = x;
+    st
 }
 
-pub fn with_weighing(st: State, x: Weighing) -> State
+pub fn with_weighing(mut st: State, x: Weighing) -> State
     ensures { λ r. ⌜ r ≡ withWeighing st x ⌝ }
 {
-    let book = st.book;
-    let stability = st.stability;
-    let display = st.display;
-    let setpoints = st.setpoints;
-    let sequence = st.sequence;
-    let totals = st.totals;
-    State {
-        book,
-        stability,
-        weighing: x,
-        display,
-        setpoints,
-        sequence,
-        totals,
-    }
+    st.weighing = x;
+    st
 }
 
-pub fn with_sequence(st: State, x: Sequence) -> State
+pub fn with_sequence(mut st: State, x: Sequence) -> State
     ensures { λ r. ⌜ r ≡ withSequence st x ⌝ }
 {
-    let book = st.book;
-    let stability = st.stability;
-    let weighing = st.weighing;
-    let display = st.display;
-    let setpoints = st.setpoints;
-    let totals = st.totals;
-    State {
-        book,
-        stability,
-        weighing,
-        display,
-        setpoints,
-        sequence: x,
-        totals,
-    }
+    st.sequence = x;
+    st
 }
 
-pub fn with_totals(st: State, x: Totals) -> State
+pub fn with_totals(mut st: State, x: Totals) -> State
     ensures { λ r. ⌜ r ≡ withTotals st x ⌝ }
 {
-    let book = st.book;
-    let stability = st.stability;
-    let weighing = st.weighing;
-    let display = st.display;
-    let setpoints = st.setpoints;
-    let sequence = st.sequence;
-    State {
-        book,
-        stability,
-        weighing,
-        display,
-        setpoints,
-        sequence,
-        totals: x,
-    }
+    st.totals = x;
+    st
 }

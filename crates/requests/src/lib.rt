@@ -1,14 +1,22 @@
 // Step 4: the tick's request, and what it does where it is accepted.
 ghost use mathlib.Core.Path.{_≡_};
+ghost use mathlib.Core.Bool.{not};
 ghost use mathlib.Core.List.{[], _∷_};
-ghost use Rattle.outline.specs.Requests.{row1, row6, row7, firstOf, plainly, holding, keying, closing, settling, settledBy};
-ghost use Rattle.outline.specs.Parts.{withDisplay, withSetpoints};
+ghost use lib.IntN.{pos};
+ghost use Rattle.outline.specs.Requests.{row1, row2, row3, row4, row5, row6, row7, firstOf, doneOf, plainly, holding, keying, closing, settling, settledBy};
+ghost use Rattle.outline.specs.Parts.{withWeighing, withDisplay, withSetpoints, withSequence, withTotals};
+ghost use Rattle.outline.specs.Setpoints.{setpointsFit};
+ghost use Rattle.outline.specs.Stages.{startSequence, stopSequence};
+ghost use Rattle.outline.specs.Totals.{clearTotals, takenBack};
+ghost use Rattle.outline.specs.Zero.{inZeroRange, zeroedOf, inTareRange, taredOf};
 use outline::daybook::Closed;
 use outline::machine::Settled;
 use outline::machine::State;
 use outline::requests::Outcome;
 use outline::requests::Refusal;
 use outline::requests::Request;
+use outline::settings::Mode;
+use outline::settings::Range;
 use outline::settings::Settings;
 use outline::stages::Setpoints;
 use outline::weight::Display;
@@ -41,16 +49,8 @@ fn undo_ruling(st: State) -> Outcome
     Outcome::Done
 }
 
-fn close_ruling(x: Weights) -> Outcome
-    ensures { λ r. ⌜ r ≡ firstOf (row1 x ∷ []) ⌝ }
-{
-    if x.good {
-        return Outcome::Done;
-    }
-    Outcome::Refused(Refusal::BadTick)
-}
-
 // ---- the state with a part that no other crate makes anew
+// A field that holds an enum is not assigned to: the state is built anew.
 fn with_display(st: State, x: Display) -> State
     ensures { λ r. ⌜ r ≡ withDisplay st x ⌝ }
 {
@@ -71,27 +71,14 @@ fn with_display(st: State, x: Display) -> State
     }
 }
 
-fn with_setpoints(st: State, x: Setpoints) -> State
+fn with_setpoints(mut st: State, x: Setpoints) -> State
     ensures { λ r. ⌜ r ≡ withSetpoints st x ⌝ }
 {
-    let book = st.book;
-    let stability = st.stability;
-    let weighing = st.weighing;
-    let display = st.display;
-    let sequence = st.sequence;
-    let totals = st.totals;
-    State {
-        book,
-        stability,
-        weighing,
-        display,
-        setpoints: x,
-        sequence,
-        totals,
-    }
+    st.setpoints = x;
+    st
 }
 
-// ---- what an accepted request does
+// ---- how a request is settled
 fn done(st: State) -> Settled
     ensures { λ r. ⌜ r ≡ plainly st ⌝ }
 {
@@ -100,32 +87,6 @@ fn done(st: State) -> Settled
         state: st,
         held: false,
         keyed: false,
-        closed: Closed::Nothing,
-    }
-}
-
-// Step 6 is passed over.
-fn done_holding(st: State) -> Settled
-    ensures { λ r. ⌜ r ≡ holding st ⌝ }
-{
-    Settled {
-        outcome: Outcome::Done,
-        state: st,
-        held: true,
-        keyed: false,
-        closed: Closed::Nothing,
-    }
-}
-
-// A zero is keyed.
-fn done_keying(st: State) -> Settled
-    ensures { λ r. ⌜ r ≡ keying st ⌝ }
-{
-    Settled {
-        outcome: Outcome::Done,
-        state: st,
-        held: false,
-        keyed: true,
         closed: Closed::Nothing,
     }
 }
@@ -145,114 +106,128 @@ fn done_closing(st: State) -> Settled
     }
 }
 
-// A refused request changes nothing.
-fn settled(o: Outcome, st: State, granted: Settled) -> Settled
-    ensures { λ r. ⌜ r ≡ settling o st granted ⌝ }
+fn is_refused(o: Outcome) -> bool
+    ensures { λ r. ⌜ r ≡ not (doneOf o) ⌝ }
 {
     match o {
-        Outcome::Done => {
-            let state = granted.state;
-            let closed = granted.closed;
-            Settled {
-                outcome: Outcome::Done,
-                state,
-                held: granted.held,
-                keyed: granted.keyed,
-                closed,
-            }
-        }
-        Outcome::Refused(n) => Settled {
-            outcome: Outcome::Refused(n),
+        Outcome::Done => false,
+        Outcome::Refused(_) => true,
+    }
+}
+
+// An accepted request makes the next state, held where step 6 is passed over and keyed where it is a zero; a refused one changes nothing.
+fn settled(o: Outcome, st: State, next: State, held: bool, keyed: bool) -> Settled
+    ensures { λ r. ⌜ r ≡ settling o st (record { outcome = Outcome.Done; state = next; held = held; keyed = keyed; closed = Closed.Nothing }) ⌝ }
+{
+    if is_refused(o) {
+        return Settled {
+            outcome: o,
             state: st,
             held: false,
             keyed: false,
             closed: Closed::Nothing,
-        },
+        };
+    }
+    Settled {
+        outcome: o,
+        state: next,
+        held,
+        keyed,
+        closed: Closed::Nothing,
     }
 }
 
-// ---- one function for each request
-fn ask_nothing(s: Settings, st: State, x: Weights) -> Settled
-    ensures { λ r. ⌜ r ≡ settledBy s st x Request.Nothing ⌝ }
+// ---- one function for each request that does something: the rows that it can meet, and what it does where it is accepted
+fn ask_zero(range: Range, st: State, x: Weights) -> Settled
+    ensures { λ r. ⌜ r ≡ settling (firstOf (row1 x ∷ row2 x ∷ row3 st ∷ row4 x ∷ row5 (inZeroRange range (x .raw)) ∷ [])) st (keying (withWeighing st (zeroedOf (st .weighing) (x .raw)))) ⌝ }
 {
-    done(st)
-}
-
-fn ask_zero(s: Settings, st: State, x: Weights) -> Settled
-    ensures { λ r. ⌜ r ≡ settledBy s st x Request.Zero ⌝ }
-{
-    let range = s.range;
     let weighing = st.weighing;
     let ruling = still_ruling(st, x, zero::in_zero_range(range, x.raw));
     settled(
         fit_ruling(x, ruling),
         st,
-        done_keying(with_weighing(st, zero::zeroed(weighing, x.raw))),
+        with_weighing(st, zero::zeroed(weighing, x.raw)),
+        false,
+        true,
     )
 }
 
-fn ask_tare(s: Settings, st: State, x: Weights) -> Settled
-    ensures { λ r. ⌜ r ≡ settledBy s st x Request.Tare ⌝ }
+fn ask_tare(range: Range, st: State, x: Weights) -> Settled
+    ensures { λ r. ⌜ r ≡ settling (firstOf (row1 x ∷ row2 x ∷ row3 st ∷ row4 x ∷ row5 (inTareRange range (x .divisions)) ∷ [])) st (plainly (withWeighing st (taredOf (st .weighing) (x .gross)))) ⌝ }
 {
-    let range = s.range;
     let weighing = st.weighing;
     let ruling = still_ruling(st, x, zero::in_tare_range(range, x.divisions));
     settled(
         fit_ruling(x, ruling),
         st,
-        done(with_weighing(st, zero::tared(weighing, x.gross))),
+        with_weighing(st, zero::tared(weighing, x.gross)),
+        false,
+        false,
     )
 }
 
-fn ask_tare_clear(s: Settings, st: State, x: Weights) -> Settled
-    ensures { λ r. ⌜ r ≡ settledBy s st x Request.TareClear ⌝ }
+fn ask_tare_clear(st: State) -> Settled
+    ensures { λ r. ⌜ r ≡ settling (firstOf (row3 st ∷ [])) st (plainly (withWeighing st (taredOf (st .weighing) (pos 0)))) ⌝ }
 {
     let weighing = st.weighing;
     settled(
         idle_ruling(st, Outcome::Done),
         st,
-        done(with_weighing(st, zero::tared(weighing, 0))),
+        with_weighing(st, zero::tared(weighing, 0)),
+        false,
+        false,
     )
 }
 
-fn ask_start(s: Settings, st: State, x: Weights) -> Settled
-    ensures { λ r. ⌜ r ≡ settledBy s st x Request.Start ⌝ }
+fn ask_start(st: State, x: Weights) -> Settled
+    ensures { λ r. ⌜ r ≡ settling (firstOf (row1 x ∷ row2 x ∷ row3 st ∷ [])) st (holding (withSequence st startSequence)) ⌝ }
 {
-    let granted = done_holding(with_sequence(st, batch::start_sequence()));
     let ruling = fit_ruling(x, idle_ruling(st, Outcome::Done));
-    settled(ruling, st, granted)
+    settled(
+        ruling,
+        st,
+        with_sequence(st, sequence::start_sequence()),
+        true,
+        false,
+    )
 }
 
-fn ask_stop(s: Settings, st: State, x: Weights) -> Settled
-    ensures { λ r. ⌜ r ≡ settledBy s st x Request.Stop ⌝ }
+fn ask_stop(st: State) -> Settled
+    ensures { λ r. ⌜ r ≡ holding (withSequence st (stopSequence (st .sequence))) ⌝ }
 {
     let sequence = st.sequence;
-    done_holding(with_sequence(st, batch::stop_sequence(sequence)))
+    settled(
+        Outcome::Done,
+        st,
+        with_sequence(st, sequence::stop_sequence(sequence)),
+        true,
+        false,
+    )
 }
 
-fn ask_set(s: Settings, st: State, x: Weights, p: Setpoints) -> Settled
-    ensures { λ r. ⌜ r ≡ settledBy s st x (Request.Set p) ⌝ }
+fn ask_set(mode: Mode, st: State, p: Setpoints) -> Settled
+    ensures { λ r. ⌜ r ≡ settling (firstOf (row3 st ∷ row6 (setpointsFit mode p) ∷ [])) st (plainly (withSetpoints st p)) ⌝ }
 {
-    let batching = s.batching;
-    let mode = batching.mode;
     let ruling = idle_ruling(st, set_ruling(setpoints::setpoints_fit(mode, p)));
-    settled(ruling, st, done(with_setpoints(st, p)))
+    settled(ruling, st, with_setpoints(st, p), false, false)
 }
 
-fn ask_total_clear(s: Settings, st: State, x: Weights) -> Settled
-    ensures { λ r. ⌜ r ≡ settledBy s st x Request.TotalClear ⌝ }
+fn ask_total_clear(st: State) -> Settled
+    ensures { λ r. ⌜ r ≡ plainly (withTotals st clearTotals) ⌝ }
 {
     done(with_totals(st, totals::clear_totals()))
 }
 
-fn ask_undo(s: Settings, st: State, x: Weights) -> Settled
-    ensures { λ r. ⌜ r ≡ settledBy s st x Request.Undo ⌝ }
+fn ask_undo(st: State) -> Settled
+    ensures { λ r. ⌜ r ≡ settling (firstOf (row7 st ∷ [])) st (plainly (withTotals st (takenBack (st .totals)))) ⌝ }
 {
     let totals = st.totals;
     settled(
         undo_ruling(st),
         st,
-        done(with_totals(st, totals::take_back(totals))),
+        with_totals(st, totals::take_back(totals)),
+        false,
+        false,
     )
 }
 
@@ -262,28 +237,34 @@ fn show(st: State, d: Display) -> Settled
     done(with_display(st, d))
 }
 
-fn ask_day_close(s: Settings, st: State, x: Weights) -> Settled
-    ensures { λ r. ⌜ r ≡ settledBy s st x Request.DayClose ⌝ }
+fn ask_day_close(st: State, x: Weights) -> Settled
+    ensures { λ r. ⌜ r ≡ settling (firstOf (row1 x ∷ [])) st (closing st) ⌝ }
 {
-    settled(close_ruling(x), st, done_closing(st))
+    if x.good {
+        return done_closing(st);
+    }
+    settled(Outcome::Refused(Refusal::BadTick), st, st, false, false)
 }
 
 // Step 4.
 pub fn settle(s: Settings, st: State, x: Weights, r: Request) -> Settled
     ensures { λ a. ⌜ a ≡ settledBy s st x r ⌝ }
 {
+    let range = s.range;
+    let batching = s.batching;
+    let mode = batching.mode;
     match r {
-        Request::Nothing => ask_nothing(s, st, x),
-        Request::Zero => ask_zero(s, st, x),
-        Request::Tare => ask_tare(s, st, x),
-        Request::TareClear => ask_tare_clear(s, st, x),
-        Request::Start => ask_start(s, st, x),
-        Request::Stop => ask_stop(s, st, x),
-        Request::Set(p) => ask_set(s, st, x, p),
-        Request::TotalClear => ask_total_clear(s, st, x),
-        Request::Undo => ask_undo(s, st, x),
+        Request::Nothing => done(st),
+        Request::Zero => ask_zero(range, st, x),
+        Request::Tare => ask_tare(range, st, x),
+        Request::TareClear => ask_tare_clear(st),
+        Request::Start => ask_start(st, x),
+        Request::Stop => ask_stop(st),
+        Request::Set(p) => ask_set(mode, st, p),
+        Request::TotalClear => ask_total_clear(st),
+        Request::Undo => ask_undo(st),
         Request::ShowGross => show(st, Display::Gross),
         Request::ShowNet => show(st, Display::Net),
-        Request::DayClose => ask_day_close(s, st, x),
+        Request::DayClose => ask_day_close(st, x),
     }
 }

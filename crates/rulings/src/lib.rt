@@ -14,7 +14,7 @@ pub fn is_idle_now(st: State) -> bool
 {
     let sequence = st.sequence;
     let stage = sequence.stage;
-    batch::is_idle(stage)
+    sequence::is_idle(stage)
 }
 
 // Rows 1 and 2; `rest` is what the rows after these say.

@@ -1,7 +1,2 @@
--- the tick by its parts, and the two ways it ends
+-- the tick by its parts
 pub mod Parts
-pub mod Ends
--- what is kept
-pub mod Bytes
-pub mod Order
-pub mod Back

@@ -19,8 +19,8 @@ use Rattle.outline.specs.declared.lines.LineTick.{LineTick}
 use Rattle.outline.specs.Tick.{settledOf, nextOf, tickOf}
 use Rattle.outline.specs.Lines.{commandOf, requestOf}
 use Rattle.outline.specs.Replies.{replyText, replyDue, toldOf, askedOf, unaskedOf, dueText, lineTicked, lineTickOf, writtenOf, replyBuffer}
-use Rattle.controller.specs.declared.tick.Halfway.{Halfway}
-use Rattle.controller.specs.Halves.{halfwayOf, finishOf}
+use Rattle.halves.specs.declared.Halfway.{Halfway}
+use Rattle.halves.specs.Halves.{halfwayOf, finishOf}
 use Rattle.replies.specs.declared.Wrote.{Wrote}
 use Rattle.replies.specs.declared.Wrote.the-variants.{Bytes, Short}
 use Rattle.replies.specs.Wrote.{wroteOf}

@@ -3,9 +3,8 @@ ghost use mathlib.Core.Path.{_≡_};
 ghost use Rattle.outline.specs.Tick.{tickOf};
 ghost use Rattle.outline.specs.Lines.{requestOf};
 ghost use Rattle.outline.specs.Replies.{replyDue, toldOf, unaskedOf, lineTicked, lineTickOf, replyBuffer};
-ghost use Rattle.controller.specs.Halves.{halfwayOf, finishOf};
-ghost use Rattle.serial.specs.Kept.{ReplyBounded, BytesStay, AnsweredInOrder, RefusedLines, ReadBackOnLine};
-use controller::tick::Halfway;
+ghost use Rattle.halves.specs.Halves.{halfwayOf, finishOf};
+use halves::Halfway;
 use outline::lines::Command;
 use outline::lines::LineAnswer;
 use outline::lines::LineTick;
@@ -34,8 +33,8 @@ fn with_line(told: LineAnswer, length: usize, tick: Ticked) -> LineTick
 fn half_asked(s: Settings, st: State, count: i32, contact: bool, command: Command) -> Halfway
     ensures { λ r. ⌜ r ≡ halfwayOf s st (record { count = count; contact = contact; request = requestOf command }) ⌝ }
 {
-    let request = commands::request_of(command);
-    controller::tick::half_tick(
+    let request = asks::request_of(command);
+    halves::half_tick(
         s,
         st,
         Input {
@@ -62,9 +61,9 @@ fn finished(s: Settings, command: Command, half: Halfway, length: usize) -> Line
     let settled = half.settled;
     let outcome = settled.outcome;
     with_line(
-        due::told_of(command, outcome),
+        told::told_of(command, outcome),
         length,
-        controller::tick::finish_tick(s, half),
+        halves::finish_tick(s, half),
     )
 }
 
@@ -72,7 +71,7 @@ fn finished(s: Settings, command: Command, half: Halfway, length: usize) -> Line
 fn unasked(s: Settings, st: State, count: i32, contact: bool) -> LineTick
     ensures { λ r. ⌜ r ≡ lineTicked LineAnswer.ShortBuffer 0 (tickOf s st (unaskedOf count contact)) ⌝ }
 {
-    let ticked = controller::tick::tick(
+    let ticked = controller::tick(
         s,
         st,
         Input {
@@ -102,16 +101,4 @@ pub fn line_tick(
         Wrote::Bytes(length) => finished(s, command, half, length),
         Wrote::Short => unasked(s, st, count, contact),
     }
-}
-
-// What holds of every tick with a line, whatever it is given. It does no work: it stands here so that the check's list names the
-// statements, and misses them if a proof goes.
-pub fn every_line()
-    ensures bounded { λ r. ⌜ ReplyBounded ⌝ }
-    ensures bytes { λ r. ⌜ BytesStay ⌝ }
-    ensures order { λ r. ⌜ AnsweredInOrder ⌝ }
-    ensures refused { λ r. ⌜ RefusedLines ⌝ }
-    ensures read_back { λ r. ⌜ ReadBackOnLine ⌝ }
-{
-    outline::every_run();
 }

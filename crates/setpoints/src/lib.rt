@@ -1,10 +1,8 @@
-// The setpoint rules, and the outputs that hang on setpoints alone.
+// The setpoint rules.
 ghost use mathlib.Core.Path.{_≡_};
-ghost use Rattle.outline.specs.Setpoints.{openSetpoints, sevenFit, preliminaryFits, optionalFits, setpointsFit, noLargeFlow, nearOf, fullOf};
+ghost use Rattle.outline.specs.Setpoints.{openSetpoints, sevenFit, preliminaryFits, optionalFits, setpointsFit, noLargeFlow};
 use outline::settings::Mode;
 use outline::stages::Setpoints;
-use outline::weight::Weights;
-use weight::is_fit;
 
 // Each of the seven, in display digits.
 const SETPOINT_LIMIT: u32 = 999_999;
@@ -106,28 +104,5 @@ pub fn has_no_large(m: Mode, p: Setpoints) -> bool
     match m {
         Mode::Normal => p.optional == 0,
         Mode::Loss => true,
-    }
-}
-
-// The near-zero output.
-pub fn is_near(p: Setpoints, x: Weights) -> bool
-    ensures { λ r. ⌜ r ≡ nearOf p x ⌝ }
-{
-    if !is_fit(x) {
-        return false;
-    }
-    whole::at_most(x.gross as i64, p.near as i64)
-}
-
-// The full output: mode 2 and gross above full.
-pub fn is_full(m: Mode, p: Setpoints, x: Weights) -> bool
-    ensures { λ r. ⌜ r ≡ fullOf m p x ⌝ }
-{
-    if !is_fit(x) {
-        return false;
-    }
-    match m {
-        Mode::Normal => false,
-        Mode::Loss => whole::below(p.optional as i64, x.gross as i64),
     }
 }

@@ -3,8 +3,8 @@ use Prim.Native.Nat.{ℕ, _≤_, _^_}
 use native.Mathlib.Nat as N
 use native.Mathlib.Omega.{arith}
 use mathlib.Core.Path.{_≡_, refl, sym, subst}
-use mathlib.Core.Bool.{Bool, true, false, _&&_, _||_}
-use mathlib.Core.List.{List, [], _∷_}
+use mathlib.Core.Bool.{Bool, true, false, _||_}
+use mathlib.Core.List.{[], _∷_}
 use lib.Dec.{T, leb, ltb, ltb→lt, lit<}
 use lib.IntN.{ℤ, pos, negsuc, natAbs, _-ℤ_, _*ℤ_}
 use lib.Signed.{leZ, nonNeg}
@@ -16,35 +16,11 @@ use Rattle.whole.specs.Ints.{eqZ, eqZ-yes, eqZ-no, ints, ints3, linear, leZ-tra
 use Rattle.whole.specs.Machine.{fits-of}
 use Rattle.whole.specs.Bits.{arg, drop-need, eq-is, ne-is}
 use Rattle.outline.specs.declared.settings.Given.{Given}
+use Rattle.ranges.specs.Held.{Held}
 use Rattle.outline.specs.Limits.{countLimit, capacityLimit, zeroRangeLimit, trackTimeLimit, trackWidthLimit, allowanceLimit, stableTimeLeast, stableTimeLimit, stableWidthLimit, delayLimit, flowLimit, addressLimit}
 use Rattle.outline.specs.Settings.{fromTo, within, countsFit, capacityFits, divisionFits, zeroRangeFits, trackingFits, stabilityFits, modeFits, delaysFit, flowFits, addressFits, analogFits, settingsFit}
 
 -- ---- numbers and their bits
--- every number given fits 32 bits
-pub record Held (g : Given) : Type 0 where
-  pub zero : SFits w32 (g .zero)
-  pub span : SFits w32 (g .span)
-  pub capacity : SFits w32 (g .capacity)
-  pub weight : SFits w32 (g .weight)
-  pub division : SFits w32 (g .division)
-  pub zeroing : SFits w32 (g .zeroing)
-  pub tracktime : SFits w32 (g .tracktime)
-  pub trackwidth : SFits w32 (g .trackwidth)
-  pub allowance : SFits w32 (g .allowance)
-  pub stabletime : SFits w32 (g .stabletime)
-  pub stablewidth : SFits w32 (g .stablewidth)
-  pub mode : SFits w32 (g .mode)
-  pub start : SFits w32 (g .start)
-  pub large : SFits w32 (g .large)
-  pub medium : SFits w32 (g .medium)
-  pub small : SFits w32 (g .small)
-  pub judge : SFits w32 (g .judge)
-  pub flow : SFits w32 (g .flow)
-  pub address : SFits w32 (g .address)
-  pub board : SFits w32 (g .board)
-  pub low : SFits w32 (g .low)
-  pub high : SFits w32 (g .high)
-
 -- `x == y` compares the bits: what a branch on it was told
 module _ {x y : ℤ} (f : SFits w32 x) (g : SFits w32 y) where
   pub told-yes : ofZ w32 x ≡ ofZ w32 y → eqZ x y ≡ true

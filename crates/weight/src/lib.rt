@@ -1,7 +1,6 @@
-// From count to weight. Raw and gross fine are in tenths, gross, net and tare in display digits.
+// From raw to weight. Raw and gross fine are in tenths, gross, net and tare in display digits.
 ghost use mathlib.Core.Path.{_≡_};
-ghost use Rattle.outline.specs.Weight.{goodCount, tenthsOf, rawOf, overloadOf, keptOf, weighOf, displayedOf, fitOf};
-use outline::settings::Calibration;
+ghost use Rattle.outline.specs.Weight.{overloadOf, keptOf, weighOf, displayedOf, fitOf};
 use outline::settings::Range;
 use outline::settings::Settings;
 use outline::weight::Display;
@@ -11,47 +10,11 @@ use outline::weight::Weighing;
 use outline::weight::Weights;
 use stability::is_stable;
 
-// A count beyond it makes a bad tick.
-const COUNT_LIMIT: u64 = 2_000_000;
-
-// A raw beyond it makes a bad tick: a guard that no accepted calibration meets.
-const RAW_LIMIT: u64 = 4_000_000;
-
 // Overload is beyond the capacity and so many divisions.
 const OVERLOAD_MARGIN: u64 = 8;
 
 // Gross and net stop at what an i32 holds.
 const DISPLAY_LIMIT: u64 = 2_147_483_647;
-
-fn is_good(count: i32) -> bool
-    ensures { λ r. ⌜ r ≡ goodCount count ⌝ }
-{
-    whole::magnitude(count as i64) <= COUNT_LIMIT
-}
-
-// (count - Z)·10·W/(S - Z), to nearest.
-fn tenths(cal: Calibration, count: i32) -> i64
-    ensures { λ r. ⌜ r ≡ tenthsOf cal count ⌝ }
-{
-    let from_zero = whole::difference(count, cal.zero);
-    let weight = 10 * (cal.weight as i64);
-    whole::nearest(from_zero * weight, cal.counts)
-}
-
-// What a count makes.
-pub fn raw_of(cal: Calibration, count: i32) -> Raw
-    ensures { λ r. ⌜ r ≡ rawOf cal count ⌝ }
-{
-    if !is_good(count) {
-        return Raw::Bad;
-    }
-    let raw = tenths(cal, count);
-    if whole::magnitude(raw) <= RAW_LIMIT {
-        Raw::Tenths(raw as i32)
-    } else {
-        Raw::Bad
-    }
-}
 
 fn is_overloaded(r: Range, divisions: i64) -> bool
     ensures { λ r′. ⌜ r′ ≡ overloadOf r divisions ⌝ }

@@ -1,14 +1,8 @@
-// Zero, tare and tracking. Raw is in tenths, gross and tare in display digits.
+// Zero and tare: when each is accepted, and what it does. Raw is in tenths, gross and tare in display digits.
 ghost use mathlib.Core.Path.{_≡_};
-ghost use Prim.Native.Nat.{_≤_};
-ghost use lib.IntN.{natAbs};
-ghost use Rattle.outline.specs.Zero.{inZeroRange, zeroedOf, inTareRange, taredOf, trackingOn, calmOf, withCounter, countedUp, trackedOf};
+ghost use Rattle.outline.specs.Zero.{inZeroRange, zeroedOf, inTareRange, taredOf};
 use outline::settings::Range;
-use outline::settings::Settings;
-use outline::settings::Tracking;
 use outline::weight::Weighing;
-use outline::weight::Weights;
-use weight::is_fit;
 
 // 10·|raw| is at most C·p.
 pub fn in_zero_range(r: Range, raw: i32) -> bool
@@ -25,97 +19,18 @@ pub fn in_tare_range(r: Range, divisions: i64) -> bool
 }
 
 // The zero in force becomes raw.
-pub fn zeroed(w: Weighing, raw: i32) -> Weighing
+pub fn zeroed(mut w: Weighing, raw: i32) -> Weighing
     ensures { λ r. ⌜ r ≡ zeroedOf w raw ⌝ }
 {
-    Weighing {
-        zero: raw,
-        tracked: 0,
-        counter: w.counter,
-        tare: w.tare,
-    }
+    w.zero = raw;
+    w.tracked = 0;
+    w
 }
 
 // The tare becomes gross, or 0 where it is cleared.
-pub fn tared(w: Weighing, gross: i32) -> Weighing
+pub fn tared(mut w: Weighing, gross: i32) -> Weighing
     ensures { λ r. ⌜ r ≡ taredOf w gross ⌝ }
 {
-    Weighing {
-        zero: w.zero,
-        tracked: w.tracked,
-        counter: w.counter,
-        tare: gross,
-    }
-}
-
-fn is_tracking(t: Tracking) -> bool
-    ensures { λ r. ⌜ r ≡ trackingOn t ⌝ }
-{
-    0 < t.time && 0 < t.width
-}
-
-// A tick at which the tracking counter adds one.
-fn is_calm(t: Tracking, idle: bool, keyed: bool, x: Weights) -> bool
-    ensures { λ r. ⌜ r ≡ calmOf t idle keyed x ⌝ }
-{
-    if !is_fit(x) {
-        return false;
-    }
-    if !idle {
-        return false;
-    }
-    if keyed {
-        return false;
-    }
-    whole::magnitude(x.fine) <= (t.width as u64)
-}
-
-fn with_counter(w: Weighing, n: u16) -> Weighing
-    ensures { λ r. ⌜ r ≡ withCounter w n ⌝ }
-{
-    Weighing {
-        zero: w.zero,
-        tracked: w.tracked,
-        counter: n,
-        tare: w.tare,
-    }
-}
-
-// A calm tick: the counter adds one; at q it returns to 0, and the zero moves if it may. The fine weight of a calm tick is small.
-fn counted_up(s: Settings, w: Weighing, x: Weights) -> Weighing
-    requires { ⌜ natAbs (x .fine) ≤ 255 ⌝ }
-    ensures { λ r. ⌜ r ≡ countedUp s w x ⌝ }
-{
-    let next = (w.counter as u32) + 1;
-    if next < (s.tracking.time as u32) {
-        return with_counter(w, next as u16);
-    }
-    let range = s.range;
-    if !in_zero_range(range, x.raw) {
-        return with_counter(w, 0);
-    }
-    let moved = (w.tracked as i64) + x.fine;
-    if whole::magnitude(moved) <= (s.tracking.allowance as u64) {
-        return Weighing {
-            zero: x.raw,
-            tracked: moved as i32,
-            counter: 0,
-            tare: w.tare,
-        };
-    }
-    with_counter(w, 0)
-}
-
-// Step 5.
-pub fn tracked(s: Settings, idle: bool, keyed: bool, x: Weights, w: Weighing) -> Weighing
-    ensures { λ r. ⌜ r ≡ trackedOf s idle keyed x w ⌝ }
-{
-    let rule = s.tracking;
-    if !is_tracking(rule) {
-        return with_counter(w, 0);
-    }
-    if is_calm(rule, idle, keyed, x) {
-        return counted_up(s, w, x);
-    }
-    with_counter(w, 0)
+    w.tare = gross;
+    w
 }

@@ -9,7 +9,8 @@ use lib.Dec.{lit<}
 use lib.ListN.{length, drop, getD}
 use Rattle.outline.specs.Lines.{numberFrom}
 use Rattle.outline.specs.declared.lines.Digits.the-variants.{NotDigits}
-use Rattle.fields.proofs.DigitLaws.{digit-range, more, below, step, past}
+use Rattle.digits.specs.DigitLaws.{digit-range}
+use Rattle.fields.proofs.FieldLaws.{more, below, step, past}
 use Rattle.fields.proofs.number_of.Statement.{statement}
 use Rattle.fields.proofs.number_of.Tie as tie
 

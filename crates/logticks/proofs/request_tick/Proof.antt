@@ -13,15 +13,15 @@ is-none-requires c κs = search needs
 silent-tick-requires : tie.Need-silent-tick-requires
 silent-tick-requires c κs = search needs
 
-command-tick-requires : tie.Need-command-tick-requires
-command-tick-requires c κs = search needs
-
 returns : tie.Need-returns
 returns c =
     let a = c .before .before .before .before .before .args in
     let q = toZ-ofZ (c .before .before .before .before .before .fits .count) in
     let n = sym (c .before .before .is-none .ensures) ∙ c .before .if1 .taken in
     (none (a .s) (a .st) (a .contact) (now (a .reply)) q (now (a .request)) n (c .silent-tick .ensures), none-bytes (a .s) (a .st) (a .contact) (now (a .reply)) q (now (a .request)) n)
+
+command-tick-requires : tie.Need-command-tick-requires
+command-tick-requires c κs = search needs
 
 same-length : tie.Need-same-length
 same-length c = search needs
@@ -40,7 +40,7 @@ request-tick-spec =
     (tie.spec
     is-none-requires
     silent-tick-requires
-    command-tick-requires
     returns
+    command-tick-requires
     same-length
     returns-2)

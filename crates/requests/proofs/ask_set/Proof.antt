@@ -1,6 +1,5 @@
 -- The ruling picks between the new setpoints and the old state.
 use borrow.Author.Needs.{needs}
-use Rattle.outline.specs.Requests.{settledBy, rulingOf, grantedOf}
 use Rattle.requests.proofs.ask_set.Statement.{statement}
 use Rattle.requests.proofs.ask_set.Tie as tie
 
@@ -16,15 +15,11 @@ idle-ruling-requires c κs = search needs
 with-setpoints-requires : tie.Need-with-setpoints-requires
 with-setpoints-requires c κs = search needs
 
-done-requires : tie.Need-done-requires
-done-requires c κs = search needs
-
 settled-requires : tie.Need-settled-requires
 settled-requires c κs = search needs
 
 returns : tie.Need-returns
-unfolding settledBy rulingOf grantedOf
-returns c = simp (c .settled .ensures, c .before .done .ensures, c .before .before .with-setpoints .ensures, c .before .before .before .idle-ruling .ensures, c .before .before .before .before .set-ruling .ensures, ← c .before .before .before .before .before .setpoints-fit .ensures)
+returns c = simp (c .settled .ensures, c .before .with-setpoints .ensures, c .before .before .idle-ruling .ensures, c .before .before .before .set-ruling .ensures, ← c .before .before .before .before .setpoints-fit .ensures)
 
 pub ask-set-spec : {M : Type 1} → statement M
 ask-set-spec =
@@ -34,6 +29,5 @@ ask-set-spec =
     set-ruling-requires
     idle-ruling-requires
     with-setpoints-requires
-    done-requires
     settled-requires
     returns)

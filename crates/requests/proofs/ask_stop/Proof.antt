@@ -1,6 +1,5 @@
 -- A stop meets no row.
 use borrow.Author.Needs.{needs}
-use Rattle.outline.specs.Requests.{settledBy, rulingOf, grantedOf}
 use Rattle.requests.proofs.ask_stop.Statement.{statement}
 use Rattle.requests.proofs.ask_stop.Tie as tie
 
@@ -10,14 +9,11 @@ stop-sequence-requires c κs = search needs
 with-sequence-requires : tie.Need-with-sequence-requires
 with-sequence-requires c κs = search needs
 
-done-holding-requires : tie.Need-done-holding-requires
-done-holding-requires c κs = search needs
+settled-requires : tie.Need-settled-requires
+settled-requires c κs = search needs
 
 returns : tie.Need-returns
-unfolding settledBy rulingOf grantedOf
-returns c = simp (c .done-holding .ensures, c .before .with-sequence .ensures, c .before .before .stop-sequence .ensures)
+returns c = simp (c .settled .ensures, c .before .with-sequence .ensures, c .before .before .stop-sequence .ensures)
 
 pub ask-stop-spec : {M : Type 1} → statement M
-ask-stop-spec =
-    tie.close
-    (tie.spec stop-sequence-requires with-sequence-requires done-holding-requires returns)
+ask-stop-spec = tie.close (tie.spec stop-sequence-requires with-sequence-requires settled-requires returns)

@@ -4,15 +4,14 @@ use mir.Syntax.{w32, w64}
 use mir.Val.{SFits}
 use mir.Facts.{toZ-ofZ}
 use Rattle.whole.specs.Machine.{sfits-of}
-use Rattle.outline.specs.Requests.{settledBy, rulingOf, grantedOf}
 use Rattle.requests.proofs.ask_tare.Statement.{statement}
 use Rattle.requests.proofs.ask_tare.Tie as tie
 
 -- the fields of x are told in the order that they are declared in: divisions is the fifth, gross the sixth
-divisions : (c : tie.After-struct-told) → SFits w64 (c .before .before .before .args .x .divisions)
+divisions : (c : tie.After-struct-told) → SFits w64 (c .before .before .args .x .divisions)
 divisions c = sfits-of (c .struct-told .given .1 .1 .1 .1 .0 .1)
 
-gross : (c : tie.After-struct-told) → SFits w32 (c .before .before .before .args .x .gross)
+gross : (c : tie.After-struct-told) → SFits w32 (c .before .before .args .x .gross)
 gross c = sfits-of (c .struct-told .given .1 .1 .1 .1 .1 .0 .1)
 
 in-tare-range-requires : tie.Need-in-tare-range-requires
@@ -30,21 +29,16 @@ tared-requires c κs = search needs
 with-weighing-requires : tie.Need-with-weighing-requires
 with-weighing-requires c κs = search needs
 
-done-requires : tie.Need-done-requires
-done-requires c κs = search needs
-
 settled-requires : tie.Need-settled-requires
 settled-requires c κs = search needs
 
 returns : tie.Need-returns
-unfolding settledBy rulingOf grantedOf
 returns c =
-    let t = c .before .before .before in
+    let t = c .before .before in
     let r = t .before .before in
     simp (
       c .settled .ensures,
-      c .before .done .ensures,
-      c .before .before .with-weighing .ensures,
+      c .before .with-weighing .ensures,
       t .tared .ensures,
       r .fit-ruling .ensures,
       r .before .still-ruling .ensures,
@@ -62,6 +56,5 @@ ask-tare-spec =
     fit-ruling-requires
     tared-requires
     with-weighing-requires
-    done-requires
     settled-requires
     returns)

@@ -1,6 +1,5 @@
 -- The ruling picks between the state without tare and the old one.
 use borrow.Author.Needs.{needs}
-use Rattle.outline.specs.Requests.{settledBy, rulingOf, grantedOf}
 use Rattle.requests.proofs.ask_tare_clear.Statement.{statement}
 use Rattle.requests.proofs.ask_tare_clear.Tie as tie
 
@@ -13,15 +12,11 @@ tared-requires c κs = search needs
 with-weighing-requires : tie.Need-with-weighing-requires
 with-weighing-requires c κs = search needs
 
-done-requires : tie.Need-done-requires
-done-requires c κs = search needs
-
 settled-requires : tie.Need-settled-requires
 settled-requires c κs = search needs
 
 returns : tie.Need-returns
-unfolding settledBy rulingOf grantedOf
-returns c = simp (c .settled .ensures, c .before .done .ensures, c .before .before .with-weighing .ensures, c .before .before .before .tared .ensures, c .before .before .before .before .idle-ruling .ensures)
+returns c = simp (c .settled .ensures, c .before .with-weighing .ensures, c .before .before .tared .ensures, c .before .before .before .idle-ruling .ensures)
 
 pub ask-tare-clear-spec : {M : Type 1} → statement M
 ask-tare-clear-spec =
@@ -30,6 +25,5 @@ ask-tare-clear-spec =
     idle-ruling-requires
     tared-requires
     with-weighing-requires
-    done-requires
     settled-requires
     returns)

@@ -1,6 +1,5 @@
 -- A total clear meets no row.
 use borrow.Author.Needs.{needs}
-use Rattle.outline.specs.Requests.{settledBy, rulingOf, grantedOf}
 use Rattle.requests.proofs.ask_total_clear.Statement.{statement}
 use Rattle.requests.proofs.ask_total_clear.Tie as tie
 
@@ -14,7 +13,6 @@ done-requires : tie.Need-done-requires
 done-requires c κs = search needs
 
 returns : tie.Need-returns
-unfolding settledBy rulingOf grantedOf
 returns c = simp (c .done .ensures, c .before .with-totals .ensures, c .before .before .clear-totals .ensures)
 
 pub ask-total-clear-spec : {M : Type 1} → statement M

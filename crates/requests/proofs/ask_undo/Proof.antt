@@ -1,6 +1,5 @@
 -- The ruling picks between the totals taken back and the old state.
 use borrow.Author.Needs.{needs}
-use Rattle.outline.specs.Requests.{settledBy, rulingOf, grantedOf}
 use Rattle.requests.proofs.ask_undo.Statement.{statement}
 use Rattle.requests.proofs.ask_undo.Tie as tie
 
@@ -13,15 +12,11 @@ take-back-requires c κs = search needs
 with-totals-requires : tie.Need-with-totals-requires
 with-totals-requires c κs = search needs
 
-done-requires : tie.Need-done-requires
-done-requires c κs = search needs
-
 settled-requires : tie.Need-settled-requires
 settled-requires c κs = search needs
 
 returns : tie.Need-returns
-unfolding settledBy rulingOf grantedOf
-returns c = simp (c .settled .ensures, c .before .done .ensures, c .before .before .with-totals .ensures, c .before .before .before .take-back .ensures, c .before .before .before .before .undo-ruling .ensures)
+returns c = simp (c .settled .ensures, c .before .with-totals .ensures, c .before .before .take-back .ensures, c .before .before .before .undo-ruling .ensures)
 
 pub ask-undo-spec : {M : Type 1} → statement M
 ask-undo-spec =
@@ -30,6 +25,5 @@ ask-undo-spec =
     undo-ruling-requires
     take-back-requires
     with-totals-requires
-    done-requires
     settled-requires
     returns)

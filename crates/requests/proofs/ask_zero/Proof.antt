@@ -4,7 +4,6 @@ use mir.Syntax.{w32}
 use mir.Val.{SFits}
 use mir.Facts.{toZ-ofZ}
 use Rattle.whole.specs.Machine.{sfits-of}
-use Rattle.outline.specs.Requests.{settledBy, rulingOf, grantedOf}
 use Rattle.requests.proofs.ask_zero.Statement.{statement}
 use Rattle.requests.proofs.ask_zero.Tie as tie
 
@@ -26,26 +25,21 @@ zeroed-requires c κs = search needs
 with-weighing-requires : tie.Need-with-weighing-requires
 with-weighing-requires c κs = search needs
 
-done-keying-requires : tie.Need-done-keying-requires
-done-keying-requires c κs = search needs
-
 settled-requires : tie.Need-settled-requires
 settled-requires c κs = search needs
 
 returns : tie.Need-returns
-unfolding settledBy rulingOf grantedOf
 returns c =
-    let z = c .before .before .before in
+    let z = c .before .before in
     let r = z .before .before in
     simp (
       c .settled .ensures,
-      c .before .done-keying .ensures,
-      c .before .before .with-weighing .ensures,
+      c .before .with-weighing .ensures,
       z .zeroed .ensures,
       r .fit-ruling .ensures,
       r .before .still-ruling .ensures,
       r .before .before .in-zero-range .ensures,
-      toZ-ofZ (raw (r .before .before .before .before .before .before)),
+      toZ-ofZ (raw (r .before .before .before .before .before)),
     )
 
 pub ask-zero-spec : {M : Type 1} → statement M
@@ -57,6 +51,5 @@ ask-zero-spec =
     fit-ruling-requires
     zeroed-requires
     with-weighing-requires
-    done-keying-requires
     settled-requires
     returns)

@@ -1,4 +1,4 @@
--- Each request is what its own function ensures; the two displays share one, so the definition is opened for them.
+-- Each request is what its own function ensures: the rows that it can meet, and what it does.
 use borrow.Author.Needs.{needs}
 use Rattle.outline.specs.Requests.{settledBy, rulingOf, grantedOf}
 use Rattle.requests.proofs.settle.Statement.{statement}
@@ -7,8 +7,8 @@ use Rattle.requests.proofs.settle.Tie as tie
 enum-told : tie.Need-enum-told
 enum-told c = search needs
 
-ask-nothing-requires : tie.Need-ask-nothing-requires
-ask-nothing-requires c κs = search needs
+done-requires : tie.Need-done-requires
+done-requires c κs = search needs
 
 enum-told-2 : tie.Need-enum-told-2
 enum-told-2 c = search needs
@@ -77,30 +77,39 @@ ask-day-close-requires : tie.Need-ask-day-close-requires
 ask-day-close-requires c κs = search needs
 
 returns : tie.Need-returns
-returns c = simp (c .ask-nothing .ensures, c .before .enum-told .given .1)
+unfolding settledBy rulingOf grantedOf
+returns c = simp (c .done .ensures, c .before .enum-told .given .1)
 
 returns-2 : tie.Need-returns-2
+unfolding settledBy rulingOf grantedOf
 returns-2 c = simp (c .ask-zero .ensures, c .before .enum-told2 .given .1)
 
 returns-3 : tie.Need-returns-3
+unfolding settledBy rulingOf grantedOf
 returns-3 c = simp (c .ask-tare .ensures, c .before .enum-told3 .given .1)
 
 returns-4 : tie.Need-returns-4
+unfolding settledBy rulingOf grantedOf
 returns-4 c = simp (c .ask-tare-clear .ensures, c .before .enum-told4 .given .1)
 
 returns-5 : tie.Need-returns-5
+unfolding settledBy rulingOf grantedOf
 returns-5 c = simp (c .ask-start .ensures, c .before .enum-told5 .given .1)
 
 returns-6 : tie.Need-returns-6
+unfolding settledBy rulingOf grantedOf
 returns-6 c = simp (c .ask-stop .ensures, c .before .enum-told6 .given .1)
 
 returns-7 : tie.Need-returns-7
+unfolding settledBy rulingOf grantedOf
 returns-7 c = simp (c .ask-set .ensures, c .before .before .r .given .1)
 
 returns-8 : tie.Need-returns-8
+unfolding settledBy rulingOf grantedOf
 returns-8 c = simp (c .ask-total-clear .ensures, c .before .enum-told7 .given .1)
 
 returns-9 : tie.Need-returns-9
+unfolding settledBy rulingOf grantedOf
 returns-9 c = simp (c .ask-undo .ensures, c .before .enum-told8 .given .1)
 
 returns-10 : tie.Need-returns-10
@@ -112,6 +121,7 @@ unfolding settledBy rulingOf grantedOf
 returns-11 c = simp (c .show2 .ensures, c .before .enum-told10 .given .1)
 
 returns-12 : tie.Need-returns-12
+unfolding settledBy rulingOf grantedOf
 returns-12 c = simp (c .ask-day-close .ensures, c .before .enum-told11 .given .1)
 
 pub settle-spec : {M : Type 1} → statement M
@@ -119,7 +129,7 @@ settle-spec =
     tie.close
     (tie.spec
     enum-told
-    ask-nothing-requires
+    done-requires
     enum-told-2
     ask-zero-requires
     enum-told-3

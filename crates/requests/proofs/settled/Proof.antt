@@ -1,19 +1,19 @@
--- By the two outcomes.
+-- Whether it is refused picks the state and the flags.
+use mathlib.Core.Path.{sym, _∙_}
 use borrow.Author.Needs.{needs}
+use borrow.Author.Tests.{not-true, not-false}
+use Rattle.outline.specs.Requests.{doneOf}
 use Rattle.requests.proofs.settled.Statement.{statement}
 use Rattle.requests.proofs.settled.Tie as tie
 
-enum-told : tie.Need-enum-told
-enum-told c = search needs
-
-enum-known-o : tie.Need-enum-known-o
-enum-known-o c = search needs
+is-refused-requires : tie.Need-is-refused-requires
+is-refused-requires c κs = search needs
 
 returns : tie.Need-returns
-returns c = simp (c .before .enum-told .given .1)
+returns c = simp (not-true (doneOf (c .before .before .args .o)) (sym (c .before .is-refused .ensures) ∙ c .if1 .taken))
 
 returns-2 : tie.Need-returns-2
-returns-2 c = simp (c .before .o .given .1)
+returns-2 c = simp (not-false (doneOf (c .before .before .args .o)) (sym (c .before .is-refused .ensures) ∙ c .if1 .left))
 
 pub settled-spec : {M : Type 1} → statement M
-settled-spec = tie.close (tie.spec enum-told enum-known-o returns returns-2)
+settled-spec = tie.close (tie.spec is-refused-requires returns returns-2)

@@ -1,0 +1,2 @@
+-- A law that a proof of this crate cites
+pub mod WordLaws

@@ -1,0 +1,69 @@
+// The steps of a tick after the request: 5 and 6.
+ghost use mathlib.Core.Path.{_≡_};
+ghost use Rattle.outline.specs.Tick.{withTracking, finishedOf, steppedOf, endedOf};
+use outline::machine::Settled;
+use outline::machine::State;
+use outline::settings::Settings;
+use outline::stages::Advanced;
+use outline::weight::Weights;
+use parts::with_sequence;
+use parts::with_totals;
+use parts::with_weighing;
+use rulings::is_idle_now;
+
+// Step 5. The stage is that which step 4 leaves.
+fn after_tracking(s: Settings, a: Settled, x: Weights) -> State
+    ensures { λ r. ⌜ r ≡ withTracking s a x ⌝ }
+{
+    let st = a.state;
+    let weighing = st.weighing;
+    let idle = is_idle_now(st);
+    with_weighing(st, tracking::tracked(s, idle, a.keyed, x, weighing))
+}
+
+// A finished batch is booked.
+fn after_finish(s: Settings, st: State, x: Weights, a: Advanced) -> State
+    ensures { λ r. ⌜ r ≡ finishedOf s st x a ⌝ }
+{
+    let sequence = a.sequence;
+    if a.finished {
+        let totals = st.totals;
+        let batching = s.batching;
+        let mode = batching.mode;
+        let v = comparison::compared(mode, x);
+        let landed = with_sequence(st, totals::booked_sequence(totals, v, sequence));
+        return with_totals(landed, totals::booked_totals(totals, v));
+    }
+    with_sequence(st, sequence)
+}
+
+// Step 6, which has nothing to do in stage 00.
+fn after_sequence(s: Settings, st: State, x: Weights) -> State
+    ensures { λ r. ⌜ r ≡ steppedOf s st x ⌝ }
+{
+    if is_idle_now(st) {
+        return st;
+    }
+    let batching = s.batching;
+    let mode = batching.mode;
+    let setpoints = st.setpoints;
+    let sequence = st.sequence;
+    let facts = comparison::facts(mode, setpoints, x);
+    after_finish(
+        s,
+        st,
+        x,
+        batch::advance(batching, setpoints, sequence, facts),
+    )
+}
+
+// Steps 5 and 6; step 6 is passed over after an accepted start, or a stop.
+pub fn ended(s: Settings, a: Settled, x: Weights) -> State
+    ensures { λ r. ⌜ r ≡ endedOf s a x ⌝ }
+{
+    let tracked = after_tracking(s, a, x);
+    if a.held {
+        return tracked;
+    }
+    after_sequence(s, tracked, x)
+}

@@ -1,0 +1,96 @@
+// One tick in two halves, parted after step 4: a line's reply is made between them. Nothing is asked of a caller.
+ghost use mathlib.Core.Path.{_≡_};
+ghost use Rattle.outline.specs.Tick.{readingOf, outputsOf};
+ghost use Rattle.halves.specs.Halves.{halfwayOf, finishOf};
+use ending::ended;
+use entering::entered;
+use entering::weights_of;
+use outline::machine::Answer;
+use outline::machine::Input;
+use outline::machine::Reading;
+use outline::machine::Settled;
+use outline::machine::State;
+use outline::machine::Ticked;
+use outline::settings::Settings;
+use outline::weight::Weights;
+use requests::settle;
+
+// A tick after step 4: how the request is settled, and the weights that serve the rest.
+pub struct Halfway {
+    pub settled: Settled,
+    pub weights: Weights,
+}
+
+// Steps 1 to 4. The weights are worked out again with the zero and the tare that the request leaves.
+pub fn half_tick(s: Settings, st: State, i: Input) -> Halfway
+    ensures { λ r. ⌜ r ≡ halfwayOf s st i ⌝ }
+{
+    let cal = s.calibration;
+    let request = i.request;
+    let raw = raw::raw_of(cal, i.count);
+    let before = entered(s, st, raw, i.contact);
+    let settled = settle(s, before, weights_of(s, before, raw, i.contact), request);
+    let left = settled.state;
+    Halfway {
+        settled,
+        weights: weights_of(s, left, raw, i.contact),
+    }
+}
+
+fn reading(x: Weights) -> Reading
+    ensures { λ r. ⌜ r ≡ readingOf x ⌝ }
+{
+    Reading {
+        good: x.good,
+        overload: x.overload,
+        stable: x.stable,
+        gross: x.gross,
+        net: x.net,
+    }
+}
+
+// Every output; `st` is the state after step 6.
+fn outputs(s: Settings, a: Settled, x: Weights, st: State) -> Answer
+    ensures { λ r. ⌜ r ≡ outputsOf s a x st ⌝ }
+{
+    let batching = s.batching;
+    let mode = batching.mode;
+    let board = s.board;
+    let scale = s.scale;
+    let setpoints = st.setpoints;
+    let sequence = st.sequence;
+    let stage = sequence.stage;
+    let judgement = sequence.judgement;
+    let error = sequence.error;
+    let outcome = a.outcome;
+    let closed = a.closed;
+    let settled = a.state;
+    let display = settled.display;
+    let shown = weight::displayed(display, x);
+    let fit = weight::is_fit(x);
+    Answer {
+        outcome,
+        reading: reading(x),
+        stage,
+        gates: gates::open_gates(setpoints, stage),
+        judgement,
+        error,
+        near: levels::is_near(setpoints, x),
+        full: levels::is_full(mode, setpoints, x),
+        analog: analog::analog_value(board, scale, shown, fit),
+        closed,
+    }
+}
+
+// Steps 5 and 6, and every output.
+pub fn finish_tick(s: Settings, h: Halfway) -> Ticked
+    ensures { λ r. ⌜ r ≡ finishOf s h ⌝ }
+{
+    let a = h.settled;
+    let x = h.weights;
+    let state = ended(s, a, x);
+    Ticked {
+        state,
+        answer: outputs(s, a, x, state),
+    }
+}

@@ -1,0 +1,30 @@
+// The two level outputs, near zero and full: gross against a setpoint.
+ghost use mathlib.Core.Path.{_≡_};
+ghost use Rattle.outline.specs.Setpoints.{nearOf, fullOf};
+use outline::settings::Mode;
+use outline::stages::Setpoints;
+use outline::weight::Weights;
+use weight::is_fit;
+
+// The near-zero output.
+pub fn is_near(p: Setpoints, x: Weights) -> bool
+    ensures { λ r. ⌜ r ≡ nearOf p x ⌝ }
+{
+    if !is_fit(x) {
+        return false;
+    }
+    whole::at_most(x.gross as i64, p.near as i64)
+}
+
+// The full output: mode 2 and gross above full.
+pub fn is_full(m: Mode, p: Setpoints, x: Weights) -> bool
+    ensures { λ r. ⌜ r ≡ fullOf m p x ⌝ }
+{
+    if !is_fit(x) {
+        return false;
+    }
+    match m {
+        Mode::Normal => false,
+        Mode::Loss => whole::below(p.optional as i64, x.gross as i64),
+    }
+}

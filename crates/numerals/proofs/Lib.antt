@@ -1,0 +1,3 @@
+-- Laws that the proofs of this crate share
+pub mod NumberLaws
+pub mod RunLaws

@@ -1,0 +1,79 @@
+// Zero tracking, step 5: the counter of calm ticks, and the zero that moves when it is full. Raw and fine weight are in tenths.
+ghost use mathlib.Core.Path.{_≡_};
+ghost use Prim.Native.Nat.{_≤_};
+ghost use lib.IntN.{natAbs};
+ghost use Rattle.outline.specs.Zero.{trackingOn, calmOf, withCounter, countedUp, trackedOf};
+use outline::settings::Settings;
+use outline::settings::Tracking;
+use outline::weight::Weighing;
+use outline::weight::Weights;
+use weight::is_fit;
+use zero::in_zero_range;
+
+fn is_tracking(t: Tracking) -> bool
+    ensures { λ r. ⌜ r ≡ trackingOn t ⌝ }
+{
+    0 < t.time && 0 < t.width
+}
+
+// A tick at which the tracking counter adds one.
+fn is_calm(t: Tracking, idle: bool, keyed: bool, x: Weights) -> bool
+    ensures { λ r. ⌜ r ≡ calmOf t idle keyed x ⌝ }
+{
+    if !is_fit(x) {
+        return false;
+    }
+    if !idle {
+        return false;
+    }
+    if keyed {
+        return false;
+    }
+    whole::magnitude(x.fine) <= (t.width as u64)
+}
+
+fn with_counter(mut w: Weighing, n: u16) -> Weighing
+    ensures { λ r. ⌜ r ≡ withCounter w n ⌝ }
+{
+    w.counter = n;
+    w
+}
+
+// A calm tick: the counter adds one; at q it returns to 0, and the zero moves if it may. The fine weight of a calm tick is small.
+fn counted_up(s: Settings, w: Weighing, x: Weights) -> Weighing
+    requires { ⌜ natAbs (x .fine) ≤ 255 ⌝ }
+    ensures { λ r. ⌜ r ≡ countedUp s w x ⌝ }
+{
+    let next = (w.counter as u32) + 1;
+    if next < (s.tracking.time as u32) {
+        return with_counter(w, next as u16);
+    }
+    let range = s.range;
+    if !in_zero_range(range, x.raw) {
+        return with_counter(w, 0);
+    }
+    let moved = (w.tracked as i64) + x.fine;
+    if whole::magnitude(moved) <= (s.tracking.allowance as u64) {
+        return Weighing {
+            zero: x.raw,
+            tracked: moved as i32,
+            counter: 0,
+            tare: w.tare,
+        };
+    }
+    with_counter(w, 0)
+}
+
+// Step 5.
+pub fn tracked(s: Settings, idle: bool, keyed: bool, x: Weights, w: Weighing) -> Weighing
+    ensures { λ r. ⌜ r ≡ trackedOf s idle keyed x w ⌝ }
+{
+    let rule = s.tracking;
+    if !is_tracking(rule) {
+        return with_counter(w, 0);
+    }
+    if is_calm(rule, idle, keyed, x) {
+        return counted_up(s, w, x);
+    }
+    with_counter(w, 0)
+}
