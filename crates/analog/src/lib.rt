@@ -1,9 +1,9 @@
 // The analog value: f64, each operation rounded once, in the outline's order.
 ghost use mathlib.Core.Path.{_≡_};
 ghost use Rattle.outline.specs.Analog.{scaleOf, betweenOf, clipOf, analogOf};
-use outline::analog::Analog;
-use outline::analog::Board;
-use outline::analog::Scale;
+use types::analog::Analog;
+use types::analog::Board;
+use types::analog::Scale;
 
 // The low end and D = high - low, made once when settings are accepted.
 pub fn scale_of(low: i32, high: i32) -> Scale

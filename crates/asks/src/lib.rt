@@ -1,9 +1,9 @@
 // What a command asks of the tick that it comes with.
 ghost use mathlib.Core.Path.{_≡_};
 ghost use Rattle.outline.specs.Lines.{wordRequest, requestOf};
-use outline::lines::Command;
-use outline::lines::Word;
-use outline::requests::Request;
+use types::lines::Command;
+use types::lines::Word;
+use types::requests::Request;
 
 // The three reads ask nothing of the tick: they are answered from what it shows.
 fn word_request(w: Word) -> Request

@@ -2,17 +2,17 @@
 ghost use mathlib.Core.Path.{_≡_};
 ghost use mathlib.Core.Bool.{cond};
 ghost use Rattle.outline.specs.Stages.{flowingOf, lateOf, clockOf, landOf, advanceOf};
-use outline::settings::Batching;
-use outline::stages::Advanced;
-use outline::stages::Facts;
-use outline::stages::Move;
-use outline::stages::Sequence;
-use outline::stages::SequenceError;
-use outline::stages::Setpoints;
-use outline::stages::Stage;
 use sequence::failed;
 use sequence::is_idle;
 use stages::moved;
+use types::settings::Batching;
+use types::stages::Advanced;
+use types::stages::Facts;
+use types::stages::Move;
+use types::stages::Sequence;
+use types::stages::SequenceError;
+use types::stages::Setpoints;
+use types::stages::Stage;
 
 // 04 to 11, where the flow clock runs.
 fn is_flowing(stage: Stage) -> bool

@@ -1,8 +1,8 @@
 // One number of a state, that another state hardly has.
-use outline::daybook::Book;
-use outline::machine::State;
-use outline::stages::Totals;
-use outline::weight::Weighing;
+use types::daybook::Book;
+use types::machine::State;
+use types::stages::Totals;
+use types::weight::Weighing;
 
 const MODULUS: u64 = 4_294_967_291;
 

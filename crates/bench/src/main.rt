@@ -4,18 +4,18 @@
 //
 // A count is three bytes, the least first.
 use blocks::run_block;
-use controller::next_state;
+use controller::tick;
 use libc::STDIN_FILENO;
 use libc::STDOUT_FILENO;
 use opening::open;
 use opening::open_state;
-use outline::machine::Input;
-use outline::machine::State;
-use outline::requests::Request;
-use outline::settings::Given;
-use outline::settings::Opening;
-use outline::settings::Settings;
-use outline::stages::Setpoints;
+use types::machine::Input;
+use types::machine::State;
+use types::requests::Request;
+use types::settings::Given;
+use types::settings::Opening;
+use types::settings::Settings;
+use types::stages::Setpoints;
 
 mod digest;
 
@@ -66,7 +66,7 @@ fn setpoints() -> Setpoints {
 }
 
 fn asked(s: Settings, st: State, request: Request) -> State {
-    next_state(
+    let ticked = tick(
         s,
         st,
         Input {
@@ -74,7 +74,8 @@ fn asked(s: Settings, st: State, request: Request) -> State {
             contact: false,
             request,
         },
-    )
+    );
+    ticked.state
 }
 
 // One tick before each block: the setpoints before the first of three, a start before the second, a stop before the third.

@@ -5,13 +5,13 @@ ghost use Rattle.outline.specs.Tick.{countIn, blockOf};
 use ending::ended;
 use entering::entered;
 use entering::weights_of;
-use outline::daybook::Closed;
-use outline::machine::BlockAnswer;
-use outline::machine::Blocked;
-use outline::machine::Settled;
-use outline::machine::State;
-use outline::requests::Outcome;
-use outline::settings::Settings;
+use types::daybook::Closed;
+use types::machine::BlockAnswer;
+use types::machine::Blocked;
+use types::machine::Settled;
+use types::machine::State;
+use types::requests::Outcome;
+use types::settings::Settings;
 
 // The counts of one block.
 const BLOCK_LIMIT: usize = 4_096;

@@ -5,9 +5,9 @@ ghost use lib.Dec.{eqb};
 ghost use lib.ListN.{length};
 ghost use Rattle.outline.specs.Lines.{setOf, decodeOf, bodyOf};
 use crate::letters::letters_of;
-use outline::lines::Command;
-use outline::lines::Fields;
-use outline::lines::Letters;
+use types::lines::Command;
+use types::lines::Fields;
+use types::lines::Letters;
 
 // The two letters of a command; a command that is no SS is no longer.
 const LETTERS_LENGTH: u16 = 2;

@@ -1,8 +1,8 @@
 // The command that a pair of letters names.
 ghost use mathlib.Core.Path.{_≡_};
 ghost use Rattle.outline.specs.Lines.{lettersOf};
-use outline::lines::Letters;
-use outline::lines::Word;
+use types::lines::Letters;
+use types::lines::Word;
 
 // The pair is one number of two bytes, so that one match decides.
 pub(crate) fn letters_of(a: u8, b: u8) -> Letters

@@ -1,8 +1,8 @@
 // What a receive buffer asks for: its prefix and its command. Every buffer is taken, of any bytes.
 ghost use mathlib.Core.Path.{_≡_};
 ghost use Rattle.outline.specs.Lines.{isPrefixed, spokenOf, commandOf};
-use outline::lines::Command;
-use outline::lines::LineKind;
+use types::lines::Command;
+use types::lines::LineKind;
 
 mod body;
 mod letters;

@@ -4,10 +4,10 @@ ghost use Prim.Native.Nat.{_+_};
 ghost use lib.IntN.{pos, _-ℤ_};
 ghost use lib.Signed.{ltZ};
 ghost use Rattle.outline.specs.Stages.{comparedOf, reachedOf, factsOf};
-use outline::settings::Mode;
-use outline::stages::Facts;
-use outline::stages::Setpoints;
-use outline::weight::Weights;
+use types::settings::Mode;
+use types::stages::Facts;
+use types::stages::Setpoints;
+use types::weight::Weights;
 use weight::is_fit;
 
 // The compared weight v: net in mode 1, minus net in mode 2.

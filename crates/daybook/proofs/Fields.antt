@@ -1,7 +1,7 @@
 -- What holding a book tells of its signed fields.
 use mir.Syntax.{w32, w64}
 use mir.Val.{SFits}
-use Rattle.outline.specs.declared.daybook.Book.{Book}
+use Rattle.types.specs.declared.daybook.Book.{Book}
 
 pub record Fields (b : Book) : Type 0 where
   pub opening : SFits w32 (b .opening)

@@ -2,8 +2,8 @@
 ghost use mathlib.Core.Path.{_≡_};
 ghost use lib.IntN.{_-ℤ_};
 ghost use Rattle.outline.specs.DayBook.{openBook, bookedOf, inDay, dayCount, laterGood, bookOf, closedOf};
-use outline::daybook::Book;
-use outline::weight::Raw;
+use types::daybook::Book;
+use types::weight::Raw;
 
 // The ticks of a day that are booked.
 const DAY_TICKS: u32 = 8_640_000;

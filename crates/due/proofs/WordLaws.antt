@@ -4,11 +4,11 @@ use mathlib.Core.Path.{_≡_, refl}
 use mathlib.Core.List.{List, [], _∷_}
 use denote.Enum.Declared.{tagOf}
 use types.Run.{OneOf, miss}
-use Rattle.outline.proofs.lines.Word.{the-type}
-use Rattle.outline.specs.declared.lines.Word.{Word}
-use Rattle.outline.specs.declared.lines.Word.the-variants as word
-use Rattle.outline.specs.declared.machine.Settled.{Settled}
-use Rattle.outline.specs.declared.weight.Weights.{Weights}
+use Rattle.types.proofs.lines.Word.{the-type}
+use Rattle.types.specs.declared.lines.Word.{Word}
+use Rattle.types.specs.declared.lines.Word.the-variants as word
+use Rattle.types.specs.declared.machine.Settled.{Settled}
+use Rattle.types.specs.declared.weight.Weights.{Weights}
 use Rattle.outline.specs.Lines.{lettersFor}
 use Rattle.outline.specs.Replies.{requestReply, wordReply}
 

@@ -4,12 +4,12 @@ ghost use mathlib.Core.Path.{_≡_};
 ghost use Rattle.outline.specs.Lines.{lettersFor};
 ghost use Rattle.outline.specs.Replies.{requestReply, wordReply, replyDue};
 use crate::shown::shown_of;
-use outline::lines::Command;
-use outline::lines::Reply;
-use outline::lines::Word;
-use outline::machine::Settled;
-use outline::requests::Outcome;
-use outline::weight::Weights;
+use types::lines::Command;
+use types::lines::Reply;
+use types::lines::Word;
+use types::machine::Settled;
+use types::requests::Outcome;
+use types::weight::Weights;
 
 mod shown;
 

@@ -4,9 +4,9 @@ ghost use mathlib.Core.Bool.{cond, _&&_};
 ghost use lib.IntN.{pos};
 ghost use lib.Signed.{ltZ};
 ghost use Rattle.outline.specs.Replies.{showsNet, shownOf};
-use outline::lines::Shown;
-use outline::weight::Display;
-use outline::weight::Weights;
+use types::lines::Shown;
+use types::weight::Display;
+use types::weight::Weights;
 
 fn shows_net(d: Display) -> bool
     ensures { λ r. ⌜ r ≡ showsNet d ⌝ }

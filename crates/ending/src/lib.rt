@@ -1,15 +1,15 @@
 // The steps of a tick after the request: 5 and 6.
 ghost use mathlib.Core.Path.{_≡_};
 ghost use Rattle.outline.specs.Tick.{withTracking, finishedOf, steppedOf, endedOf};
-use outline::machine::Settled;
-use outline::machine::State;
-use outline::settings::Settings;
-use outline::stages::Advanced;
-use outline::weight::Weights;
 use parts::with_sequence;
 use parts::with_totals;
 use parts::with_weighing;
 use rulings::is_idle_now;
+use types::machine::Settled;
+use types::machine::State;
+use types::settings::Settings;
+use types::stages::Advanced;
+use types::weight::Weights;
 
 // Step 5. The stage is that which step 4 leaves.
 fn after_tracking(s: Settings, a: Settled, x: Weights) -> State

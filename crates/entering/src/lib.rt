@@ -2,12 +2,12 @@
 ghost use mathlib.Core.Path.{_≡_};
 ghost use Rattle.outline.specs.Parts.{withStability};
 ghost use Rattle.outline.specs.Tick.{enteredOf, weightsOf};
-use outline::machine::State;
-use outline::settings::Settings;
-use outline::weight::Raw;
-use outline::weight::Stability;
-use outline::weight::Weights;
 use parts::with_book;
+use types::machine::State;
+use types::settings::Settings;
+use types::weight::Raw;
+use types::weight::Stability;
+use types::weight::Weights;
 
 // The state with a new stability.
 fn with_stability(mut st: State, x: Stability) -> State

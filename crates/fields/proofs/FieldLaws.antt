@@ -10,7 +10,7 @@ use lib.ListN.{length, getD, drop, drop-of-length-le}
 use lib.Seq.{drop-cons}
 use Rattle.outline.specs.Lines.{isDigit, numberFrom}
 use Rattle.digits.specs.DigitLaws.{next-digit, room}
-use Rattle.outline.specs.declared.lines.Digits.the-variants.{Number, NotDigits}
+use Rattle.types.specs.declared.lines.Digits.the-variants.{Number, NotDigits}
 
 -- one digit more, even a 9
 pub more : (i : ℕ) {v : ℕ} → v < 10 ^ i → v * 10 + 9 < 10 ^ (i + 1)

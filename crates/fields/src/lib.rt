@@ -3,9 +3,9 @@ ghost use mathlib.Core.Path.{_≡_};
 ghost use Prim.Native.Nat.{_≤_};
 ghost use lib.ListN.{length};
 ghost use Rattle.outline.specs.Lines.{numberFrom, fieldOf, sevenOf, fieldsOf};
-use outline::lines::Digits;
-use outline::lines::Fields;
-use outline::stages::Setpoints;
+use types::lines::Digits;
+use types::lines::Fields;
+use types::stages::Setpoints;
 
 // The digits of a field. So many always fit a number of 32 bits.
 const FIELD_WIDTH: usize = 6;

@@ -2,9 +2,9 @@
 ghost use mathlib.Core.Path.{_≡_};
 ghost use mathlib.Core.Bool.{Bool};
 ghost use Rattle.outline.specs.Stages.{gatesOf};
-use outline::stages::Gates;
-use outline::stages::Setpoints;
-use outline::stages::Stage;
+use types::stages::Gates;
+use types::stages::Setpoints;
+use types::stages::Stage;
 
 // The open gates.
 pub fn open_gates(p: Setpoints, stage: Stage) -> Gates

@@ -1,8 +1,8 @@
 -- One tick in two halves, parted after step 4: a line's reply is made between them, before anything is known to be done.
-use Rattle.outline.specs.declared.settings.Settings.{Settings}
-use Rattle.outline.specs.declared.machine.State.{State}
-use Rattle.outline.specs.declared.machine.Input.{Input}
-use Rattle.outline.specs.declared.machine.Ticked.{Ticked}
+use Rattle.types.specs.declared.settings.Settings.{Settings}
+use Rattle.types.specs.declared.machine.State.{State}
+use Rattle.types.specs.declared.machine.Input.{Input}
+use Rattle.types.specs.declared.machine.Ticked.{Ticked}
 use Rattle.outline.specs.Tick.{settledOf, servedOf, endedOf, outputsOf}
 use Rattle.halves.specs.declared.Halfway.{Halfway}
 

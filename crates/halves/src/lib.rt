@@ -5,15 +5,15 @@ ghost use Rattle.halves.specs.Halves.{halfwayOf, finishOf};
 use ending::ended;
 use entering::entered;
 use entering::weights_of;
-use outline::machine::Answer;
-use outline::machine::Input;
-use outline::machine::Reading;
-use outline::machine::Settled;
-use outline::machine::State;
-use outline::machine::Ticked;
-use outline::settings::Settings;
-use outline::weight::Weights;
 use requests::settle;
+use types::machine::Answer;
+use types::machine::Input;
+use types::machine::Reading;
+use types::machine::Settled;
+use types::machine::State;
+use types::machine::Ticked;
+use types::settings::Settings;
+use types::weight::Weights;
 
 // A tick after step 4: how the request is settled, and the weights that serve the rest.
 pub struct Halfway {

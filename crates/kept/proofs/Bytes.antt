@@ -8,14 +8,14 @@ use lib.ListN.{length, drop, length-append, length-drop}
 use lib.Seq.{drop-append-seam}
 use lib.IntN.{ℤ}
 use borrow.Author.Tests.{leb-true}
-use Rattle.outline.specs.declared.settings.Settings.{Settings}
-use Rattle.outline.specs.declared.requests.Outcome.{Outcome}
-use Rattle.outline.specs.declared.requests.Outcome.the-variants as outcome
-use Rattle.outline.specs.declared.machine.State.{State}
-use Rattle.outline.specs.declared.lines.LineKind.the-variants as kind
-use Rattle.outline.specs.declared.lines.Command.{Command}
-use Rattle.outline.specs.declared.lines.Command.the-variants as command
-use Rattle.outline.specs.declared.lines.LineAnswer.the-variants as told
+use Rattle.types.specs.declared.settings.Settings.{Settings}
+use Rattle.types.specs.declared.requests.Outcome.{Outcome}
+use Rattle.types.specs.declared.requests.Outcome.the-variants as outcome
+use Rattle.types.specs.declared.machine.State.{State}
+use Rattle.types.specs.declared.lines.LineKind.the-variants as kind
+use Rattle.types.specs.declared.lines.Command.{Command}
+use Rattle.types.specs.declared.lines.Command.the-variants as command
+use Rattle.types.specs.declared.lines.LineAnswer.the-variants as told
 use Rattle.outline.specs.Lines.{kindOf, commandOf}
 use Rattle.outline.specs.Replies.{toldOf, dueText, lineTickOf, replyBuffer}
 use Rattle.kept.specs.Kept.{isFitting, Bounded, ReplyBounded, Empty, BytesStay}

@@ -7,13 +7,13 @@ use mathlib.Core.List.{List, [], _++_}
 use lib.ListN.{length, drop}
 use lib.IntN.{ℤ}
 use borrow.Author.Tests.{le-leb}
-use Rattle.outline.specs.declared.settings.Settings.{Settings}
-use Rattle.outline.specs.declared.weight.Weights.{Weights}
-use Rattle.outline.specs.declared.machine.State.{State}
-use Rattle.outline.specs.declared.machine.Settled.{Settled}
-use Rattle.outline.specs.declared.lines.Command.{Command}
-use Rattle.outline.specs.declared.lines.Command.the-variants as command
-use Rattle.outline.specs.declared.lines.LineAnswer.the-variants as told
+use Rattle.types.specs.declared.settings.Settings.{Settings}
+use Rattle.types.specs.declared.weight.Weights.{Weights}
+use Rattle.types.specs.declared.machine.State.{State}
+use Rattle.types.specs.declared.machine.Settled.{Settled}
+use Rattle.types.specs.declared.lines.Command.{Command}
+use Rattle.types.specs.declared.lines.Command.the-variants as command
+use Rattle.types.specs.declared.lines.LineAnswer.the-variants as told
 use Rattle.outline.specs.Limits.{lineLimit}
 use Rattle.outline.specs.Tick.{settledOf, tickOf}
 use Rattle.outline.specs.Lines.{commandOf}

@@ -5,19 +5,19 @@ use mathlib.Core.Path.{_≡_, refl, ap, _∙_}
 use mathlib.Core.Bool.{Bool, true, false}
 use mathlib.Core.List.{List}
 use lib.IntN.{ℤ}
-use Rattle.outline.specs.declared.settings.Settings.{Settings}
-use Rattle.outline.specs.declared.requests.Request.the-variants as request
-use Rattle.outline.specs.declared.requests.Refusal.{Refusal}
-use Rattle.outline.specs.declared.requests.Refusal.the-variants as refusal
-use Rattle.outline.specs.declared.requests.Outcome.{Outcome}
-use Rattle.outline.specs.declared.requests.Outcome.the-variants as outcome
-use Rattle.outline.specs.declared.machine.State.{State}
-use Rattle.outline.specs.declared.lines.LineKind.{LineKind}
-use Rattle.outline.specs.declared.lines.LineKind.the-variants as kind
-use Rattle.outline.specs.declared.lines.Command.{Command}
-use Rattle.outline.specs.declared.lines.Command.the-variants as command
-use Rattle.outline.specs.declared.lines.LineAnswer.the-variants as told
-use Rattle.outline.specs.declared.lines.LineTick.{LineTick}
+use Rattle.types.specs.declared.settings.Settings.{Settings}
+use Rattle.types.specs.declared.requests.Request.the-variants as request
+use Rattle.types.specs.declared.requests.Refusal.{Refusal}
+use Rattle.types.specs.declared.requests.Refusal.the-variants as refusal
+use Rattle.types.specs.declared.requests.Outcome.{Outcome}
+use Rattle.types.specs.declared.requests.Outcome.the-variants as outcome
+use Rattle.types.specs.declared.machine.State.{State}
+use Rattle.types.specs.declared.lines.LineKind.{LineKind}
+use Rattle.types.specs.declared.lines.LineKind.the-variants as kind
+use Rattle.types.specs.declared.lines.Command.{Command}
+use Rattle.types.specs.declared.lines.Command.the-variants as command
+use Rattle.types.specs.declared.lines.LineAnswer.the-variants as told
+use Rattle.types.specs.declared.lines.LineTick.{LineTick}
 use Rattle.outline.specs.Tick.{settledOf}
 use Rattle.outline.specs.Lines.{lineOf, kindOf, prefixLength, isPrefixed, bodyOf, spokenOf, commandAt, commandOf, requestOf}
 use Rattle.outline.specs.Numbers.{refusalNumber, toldNumber}

@@ -7,16 +7,16 @@ use mathlib.Core.List.{List, _++_}
 use lib.Dec.{leb}
 use lib.ListN.{length, drop}
 use lib.IntN.{ℤ}
-use Rattle.outline.specs.declared.settings.Settings.{Settings}
-use Rattle.outline.specs.declared.stages.Setpoints.{Setpoints}
-use Rattle.outline.specs.declared.machine.State.{State}
-use Rattle.outline.specs.declared.machine.Input.{Input}
-use Rattle.outline.specs.declared.lines.LineKind.{LineKind}
-use Rattle.outline.specs.declared.lines.LineKind.the-variants as kind
-use Rattle.outline.specs.declared.lines.Word.{Word}
-use Rattle.outline.specs.declared.lines.Word.the-variants as word
-use Rattle.outline.specs.declared.lines.Command.the-variants as command
-use Rattle.outline.specs.declared.lines.LineAnswer.the-variants as told
+use Rattle.types.specs.declared.settings.Settings.{Settings}
+use Rattle.types.specs.declared.stages.Setpoints.{Setpoints}
+use Rattle.types.specs.declared.machine.State.{State}
+use Rattle.types.specs.declared.machine.Input.{Input}
+use Rattle.types.specs.declared.lines.LineKind.{LineKind}
+use Rattle.types.specs.declared.lines.LineKind.the-variants as kind
+use Rattle.types.specs.declared.lines.Word.{Word}
+use Rattle.types.specs.declared.lines.Word.the-variants as word
+use Rattle.types.specs.declared.lines.Command.the-variants as command
+use Rattle.types.specs.declared.lines.LineAnswer.the-variants as told
 use Rattle.outline.specs.Limits.{lineLimit}
 use Rattle.outline.specs.Tick.{settledOf, tickOf}
 use Rattle.outline.specs.Lines.{lineOf, kindOf, prefixLength, isPrefixed, bodyOf, commandOf}

@@ -1,9 +1,9 @@
 // The two level outputs, near zero and full: gross against a setpoint.
 ghost use mathlib.Core.Path.{_≡_};
 ghost use Rattle.outline.specs.Setpoints.{nearOf, fullOf};
-use outline::settings::Mode;
-use outline::stages::Setpoints;
-use outline::weight::Weights;
+use types::settings::Mode;
+use types::stages::Setpoints;
+use types::weight::Weights;
 use weight::is_fit;
 
 // The near-zero output.

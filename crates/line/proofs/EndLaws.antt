@@ -11,8 +11,8 @@ use lib.Seq.{drop-cons, getD-drop}
 use lib.Dec.{leb}
 use Rattle.outline.specs.Limits.{lineLimit}
 use Rattle.outline.specs.Lines.{isCrLf, endAt, lineEndFrom, lineEndOf, lengthAt}
-use Rattle.outline.specs.declared.lines.LineEnd.{LineEnd}
-use Rattle.outline.specs.declared.lines.LineEnd.the-variants.{Missing, Beyond, At}
+use Rattle.types.specs.declared.lines.LineEnd.{LineEnd}
+use Rattle.types.specs.declared.lines.LineEnd.the-variants.{Missing, Beyond, At}
 
 -- one byte further
 step : (s : List ℕ) (i : ℕ) → i < length s → lineEndFrom i (drop i s) ≡ cond (isCrLf (getD s i 0) (getD s (i + 1) 0)) (endAt i) (lineEndFrom (i + 1) (drop (i + 1) s))

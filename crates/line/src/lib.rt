@@ -3,8 +3,8 @@ ghost use mathlib.Core.Path.{_≡_};
 ghost use lib.ListN.{getD};
 ghost use denote.Ref.{ptr};
 ghost use Rattle.outline.specs.Lines.{isCrLf, lineEndOf, lineOf, kindOf};
-use outline::lines::LineEnd;
-use outline::lines::LineKind;
+use types::lines::LineEnd;
+use types::lines::LineKind;
 
 // The most bytes that a line may have before its CR LF.
 const LINE_LIMIT: usize = 64;

@@ -11,9 +11,9 @@ use lib.ListN.{length, getD}
 use Rattle.whole.specs.Chains.{links}
 use Rattle.outline.specs.Limits.{requestLimit}
 use Rattle.outline.specs.Log.{isContact, isRest, behindCount, numberAt, logLineOf}
-use Rattle.outline.specs.declared.log.LogNumber.{LogNumber}
-use Rattle.outline.specs.declared.log.LogNumber.the-variants as number
-use Rattle.outline.specs.declared.log.LogLine.the-variants.{Tick, Unreadable}
+use Rattle.types.specs.declared.log.LogNumber.{LogNumber}
+use Rattle.types.specs.declared.log.LogNumber.the-variants as number
+use Rattle.types.specs.declared.log.LogLine.the-variants.{Tick, Unreadable}
 
 pub record Placed (line : List ℕ) (at : ℕ) : Type 0 where
   pub some : at + 1 ≤ length line

@@ -1,8 +1,8 @@
 // The lines of a log, `count contact request`: what stands in one, and whether it can be read at all. Every line is taken, of any bytes.
 ghost use mathlib.Core.Path.{_≡_};
 ghost use Rattle.outline.specs.Log.{isContact, isRest, logLineOf, isNone};
-use outline::log::LogLine;
-use outline::log::LogNumber;
+use types::log::LogLine;
+use types::log::LogNumber;
 
 // The most bytes of a request.
 pub const REQUEST_LIMIT: usize = 100;

@@ -9,12 +9,12 @@ use lib.ListN.{drop}
 use Rattle.outline.specs.Tick.{tickOf}
 use Rattle.outline.specs.Replies.{unaskedOf, lineTicked, lineTickOf, replyBuffer}
 use Rattle.outline.specs.Log.{isNone, receivedOf, requestTick, logLineOf, logTickOf, logBuffer}
-use Rattle.outline.specs.declared.settings.Settings.{Settings}
-use Rattle.outline.specs.declared.machine.State.{State}
-use Rattle.outline.specs.declared.lines.LineTick.{LineTick}
-use Rattle.outline.specs.declared.lines.LineAnswer.the-variants.{Done}
-use Rattle.outline.specs.declared.log.LogLine.the-variants as logline
-use Rattle.outline.specs.declared.log.LogTick.the-variants as logtick
+use Rattle.types.specs.declared.settings.Settings.{Settings}
+use Rattle.types.specs.declared.machine.State.{State}
+use Rattle.types.specs.declared.lines.LineTick.{LineTick}
+use Rattle.types.specs.declared.lines.LineAnswer.the-variants.{Done}
+use Rattle.types.specs.declared.log.LogLine.the-variants as logline
+use Rattle.types.specs.declared.log.LogTick.the-variants as logtick
 
 abbrev pub bufferAfter : Settings → State → ℤ → Bool → List ℕ → List ℕ → List ℕ
 bufferAfter s st count contact request buffer = cond (isNone request) buffer (replyBuffer s st count contact (receivedOf request) buffer)

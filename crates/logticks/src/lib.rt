@@ -7,14 +7,14 @@ ghost use Rattle.outline.specs.Limits.{requestLimit};
 ghost use Rattle.outline.specs.Tick.{tickOf};
 ghost use Rattle.outline.specs.Replies.{unaskedOf, lineTicked, lineTickOf, replyBuffer};
 ghost use Rattle.outline.specs.Log.{isNone, receivedOf, requestTick, logTickOf, logBuffer};
-use outline::lines::LineAnswer;
-use outline::lines::LineTick;
-use outline::log::LogLine;
-use outline::log::LogTick;
-use outline::machine::Input;
-use outline::machine::State;
-use outline::requests::Request;
-use outline::settings::Settings;
+use types::lines::LineAnswer;
+use types::lines::LineTick;
+use types::log::LogLine;
+use types::log::LogTick;
+use types::machine::Input;
+use types::machine::State;
+use types::requests::Request;
+use types::settings::Settings;
 
 const CR: u8 = 13;
 

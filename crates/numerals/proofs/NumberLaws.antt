@@ -10,7 +10,7 @@ use lib.IntN.{ℤ}
 use lib.ListN.{length, take, drop, drop-of-length-le, List·getD-eq-default}
 use Rattle.outline.specs.Limits.{numberDigits}
 use Rattle.outline.specs.Log.{isMinus, digitsFrom, digitRun, valueFrom, signedOf, numberAt}
-use Rattle.outline.specs.declared.log.LogNumber.the-variants.{Number, Unreadable}
+use Rattle.types.specs.declared.log.LogNumber.the-variants.{Number, Unreadable}
 
 -- past the line's end there is no digit
 pub beyond : (line : List ℕ) (at : ℕ) → length line ≤ at → Unreadable ≡ numberAt line at

@@ -5,7 +5,7 @@ ghost use Prim.Native.Nat.{suc, _^_, _≤_, _<_};
 ghost use lib.ListN.{take};
 ghost use Rattle.outline.specs.Limits.{numberDigits};
 ghost use Rattle.outline.specs.Log.{digitRun, valueFrom, signedOf, numberAt};
-use outline::log::LogNumber;
+use types::log::LogNumber;
 
 // The most digits of a number. So many always fit an i32.
 const NUMBER_DIGITS: usize = 9;

@@ -2,12 +2,12 @@
 ghost use mathlib.Core.Path.{_≡_};
 ghost use Rattle.outline.specs.Settings.{openOf};
 ghost use Rattle.outline.specs.Tick.{openState};
-use outline::machine::State;
-use outline::settings::Given;
-use outline::settings::Opening;
-use outline::weight::Display;
-use outline::weight::Stability;
-use outline::weight::Weighing;
+use types::machine::State;
+use types::settings::Given;
+use types::settings::Opening;
+use types::weight::Display;
+use types::weight::Stability;
+use types::weight::Weighing;
 
 pub fn open(g: Given) -> Opening
     ensures { λ r. ⌜ r ≡ openOf g ⌝ }

@@ -13,7 +13,7 @@ use lib.Ieee.{Float, binary64, unlike, round, ofInt, add, mul, div}
 use lib.Ieee.Back.{round-whole}
 use lib.Ieee.Scale.{round-same}
 use Rattle.whole.specs.Ints.{ints2, ints3, ints, linear}
-use Rattle.outline.specs.declared.analog.Analog.the-variants as analog
+use Rattle.types.specs.declared.analog.Analog.the-variants as analog
 use Rattle.outline.specs.Limits.{endLimit, displayLimit}
 use Rattle.outline.specs.Analog.{f64, scaleOf, betweenOf, clipOf, distanceOf, currentOf, voltageOf, analogOf}
 use Rattle.outline.specs.AnalogOwed.{Ends, ExactEnds, BeyondEnds, BetweenEnds, past, plusZero, shareOf, currentAt, voltageAt}

@@ -4,10 +4,10 @@ use mathlib.Core.Path.{_≡_, refl, sym, ap, _∙_, subst}
 use mathlib.Core.Bool.{Bool, true, false, cond, _&&_}
 use mathlib.Core.List.{[], _∷_}
 use lib.IntN.{_+ℤ_, _-ℤ_}
-use Rattle.outline.specs.declared.settings.Settings.{Settings}
-use Rattle.outline.specs.declared.weight.Raw.the-variants.{Tenths}
-use Rattle.outline.specs.declared.daybook.Book.{Book}
-use Rattle.outline.specs.declared.machine.Input.{Input}
+use Rattle.types.specs.declared.settings.Settings.{Settings}
+use Rattle.types.specs.declared.weight.Raw.the-variants.{Tenths}
+use Rattle.types.specs.declared.daybook.Book.{Book}
+use Rattle.types.specs.declared.machine.Input.{Input}
 use Rattle.outline.specs.Weight.{tenthsOf, rawOf}
 use Rattle.outline.specs.DayBook.{bookOf, closedOf}
 use Rattle.outline.specs.Tick.{openState}

@@ -10,7 +10,7 @@ use lib.IntN.{ℤ, pos, negℤ, natAbs, _+ℤ_, _-ℤ_}
 use borrow.Author.Tests.{leb-true, le-leb}
 use Rattle.whole.specs.Limit.{limit-plain}
 use Rattle.whole.specs.Ints.{ints, linear, int-elim, ints2, ints3, ints6, abs-add}
-use Rattle.outline.specs.declared.weight.Raw.the-variants.{Bad, Tenths}
+use Rattle.types.specs.declared.weight.Raw.the-variants.{Bad, Tenths}
 use Rattle.outline.specs.Limits.{dayTicks, rawLimit, bookLimit}
 use Rattle.outline.specs.DayBook.{limitOf, bookedOf, inDay, dayCount, laterGood, bookOf, closedOf}
 use Rattle.outline.specs.Day.{Good, riseOf, risesOf, earlyOf, isUse, isLate, refilledOf, usedOf, unbookedOf, openingOf, lastOf, daySums}

@@ -10,10 +10,10 @@ use lib.Dec.{leb}
 use lib.ListN.{length, take, drop, length-drop}
 use lib.Seq.{append-snoc, length-take-le, take-add, drop-drop}
 use borrow.Author.Tests.{leb-true}
-use Rattle.outline.specs.declared.stages.Setpoints.{Setpoints}
-use Rattle.outline.specs.declared.lines.Digits.{Digits}
-use Rattle.outline.specs.declared.lines.Digits.the-variants.{Number, NotDigits}
-use Rattle.outline.specs.declared.lines.Fields.the-variants.{Points}
+use Rattle.types.specs.declared.stages.Setpoints.{Setpoints}
+use Rattle.types.specs.declared.lines.Digits.{Digits}
+use Rattle.types.specs.declared.lines.Digits.the-variants.{Number, NotDigits}
+use Rattle.types.specs.declared.lines.Fields.the-variants.{Points}
 use Rattle.outline.specs.Lines.{isDigit, numberFrom, fieldOf, sevenOf, fieldsOf}
 use Rattle.outline.specs.Replies.{digitsOf, pointsText}
 use Rattle.whole.specs.Chains.{and-left, and-right}

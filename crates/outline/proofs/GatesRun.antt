@@ -1,8 +1,8 @@
 -- No gate is open while a sequence error stands, in every answer of every run. Assumes nothing.
 use mathlib.Core.Path.{_≡_, refl}
 use mathlib.Core.Bool.{true}
-use Rattle.outline.specs.declared.settings.Settings.{Settings}
-use Rattle.outline.specs.declared.machine.Input.{Input}
+use Rattle.types.specs.declared.settings.Settings.{Settings}
+use Rattle.types.specs.declared.machine.Input.{Input}
 use Rattle.outline.specs.Tick.{openState}
 use Rattle.outline.specs.Run.{History, start, _▷_, runOf}
 use Rattle.outline.specs.StaysTrue.{GatesShut}

@@ -8,10 +8,10 @@ use lib.IntN.{ℤ, pos, natAbs, _-ℤ_, _*ℤ_}
 use lib.Signed.{leZ}
 use borrow.Author.Tests.{leb-true}
 use Rattle.whole.specs.Ints.{ints, linear, ints3}
-use Rattle.outline.specs.declared.settings.Given.{Given}
-use Rattle.outline.specs.declared.settings.Calibration.{Calibration}
-use Rattle.outline.specs.declared.settings.Settings.{Settings}
-use Rattle.outline.specs.declared.settings.Opening.the-variants as opening
+use Rattle.types.specs.declared.settings.Given.{Given}
+use Rattle.types.specs.declared.settings.Calibration.{Calibration}
+use Rattle.types.specs.declared.settings.Settings.{Settings}
+use Rattle.types.specs.declared.settings.Opening.the-variants as opening
 use Rattle.outline.specs.Limits.{countLimit, capacityLimit}
 use Rattle.outline.specs.Settings.{fromTo, within, countsFit, capacityFits, divisionFits, zeroRangeFits, trackingFits, stabilityFits, modeFits, delaysFit, flowFits, addressFits, analogFits, settingsFit, settingsOf, openOf}
 use Rattle.outline.specs.Owed.{Accepted}

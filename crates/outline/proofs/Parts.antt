@@ -6,7 +6,7 @@ use mathlib.Core.List.{List, [], _∷_}
 use lib.Dec.{T}
 use lib.IntN.{ℤ, pos, _+ℤ_}
 use Rattle.whole.specs.Ints.{ints, linear, int-elim}
-use Rattle.outline.specs.declared.requests.Outcome.the-variants as outcome
+use Rattle.types.specs.declared.requests.Outcome.the-variants as outcome
 use Rattle.outline.specs.Requests.{Row, firstOf, doneOf}
 
 pub cond-same : {A : Type 0} (t : Bool) (a : A) → cond t a a ≡ a

@@ -13,15 +13,15 @@ use lib.Signed.{leZ}
 use Rattle.whole.specs.Ints.{ints, linear, int-elim, eqZ, eqZ-true, abs-mul, abs-sub}
 use Rattle.whole.specs.Nearest.{nearest-le, abs-nearest}
 use Rattle.whole.specs.Limit.{limitTo, limit-plain}
-use Rattle.outline.specs.declared.settings.Given.{Given}
-use Rattle.outline.specs.declared.settings.Range.{Range}
-use Rattle.outline.specs.declared.settings.Settings.{Settings}
-use Rattle.outline.specs.declared.weight.Raw.{Raw}
-use Rattle.outline.specs.declared.weight.Raw.the-variants.{Bad, Tenths}
-use Rattle.outline.specs.declared.weight.Stability.{Stability}
-use Rattle.outline.specs.declared.weight.Weighing.{Weighing}
-use Rattle.outline.specs.declared.machine.State.{State}
-use Rattle.outline.specs.declared.machine.Input.{Input}
+use Rattle.types.specs.declared.settings.Given.{Given}
+use Rattle.types.specs.declared.settings.Range.{Range}
+use Rattle.types.specs.declared.settings.Settings.{Settings}
+use Rattle.types.specs.declared.weight.Raw.{Raw}
+use Rattle.types.specs.declared.weight.Raw.the-variants.{Bad, Tenths}
+use Rattle.types.specs.declared.weight.Stability.{Stability}
+use Rattle.types.specs.declared.weight.Weighing.{Weighing}
+use Rattle.types.specs.declared.machine.State.{State}
+use Rattle.types.specs.declared.machine.Input.{Input}
 use Rattle.outline.specs.Limits.{capacityLimit, zeroRangeLimit, rawLimit, displayLimit}
 use Rattle.outline.specs.Settings.{fromTo, capacityFits, divisionFits, zeroRangeFits, settingsOf}
 use Rattle.outline.specs.Weight.{rawOf, divisionsOf, grossOf, weighOf}

@@ -7,27 +7,27 @@ use mathlib.Core.Bool.{Bool, true, false, cond, _&&_}
 use lib.Dec.{leb, ltb, eqb}
 use lib.IntN.{ℤ}
 use borrow.Author.Tests.{leb-false, ltb-false}
-use Rattle.outline.specs.declared.settings.Mode.{Mode}
-use Rattle.outline.specs.declared.settings.Batching.{Batching}
-use Rattle.outline.specs.declared.settings.Settings.{Settings}
-use Rattle.outline.specs.declared.weight.Weights.{Weights}
-use Rattle.outline.specs.declared.requests.Request.{Request}
-use Rattle.outline.specs.declared.requests.Request.the-variants as request
-use Rattle.outline.specs.declared.stages.Setpoints.{Setpoints}
-use Rattle.outline.specs.declared.stages.Stage.{Stage}
-use Rattle.outline.specs.declared.stages.Stage.the-variants.{Idle, StartDelay, LargeDisable, LargeFlow, MediumDisable, MediumFlow, SmallDisable, SmallFlow, JudgeDelay, JudgeWait}
-use Rattle.outline.specs.declared.stages.SequenceError.{SequenceError}
-use Rattle.outline.specs.declared.stages.SequenceError.the-variants as error
-use Rattle.outline.specs.declared.stages.Sequence.{Sequence}
-use Rattle.outline.specs.declared.stages.Facts.{Facts}
-use Rattle.outline.specs.declared.stages.Timing.the-variants as timing
-use Rattle.outline.specs.declared.stages.Move.{Move}
-use Rattle.outline.specs.declared.stages.Move.the-variants.{To, Fail, Finish}
-use Rattle.outline.specs.declared.stages.Advanced.{Advanced}
-use Rattle.outline.specs.declared.stages.Totals.{Totals}
-use Rattle.outline.specs.declared.machine.State.{State}
-use Rattle.outline.specs.declared.machine.Input.{Input}
-use Rattle.outline.specs.declared.machine.Settled.{Settled}
+use Rattle.types.specs.declared.settings.Mode.{Mode}
+use Rattle.types.specs.declared.settings.Batching.{Batching}
+use Rattle.types.specs.declared.settings.Settings.{Settings}
+use Rattle.types.specs.declared.weight.Weights.{Weights}
+use Rattle.types.specs.declared.requests.Request.{Request}
+use Rattle.types.specs.declared.requests.Request.the-variants as request
+use Rattle.types.specs.declared.stages.Setpoints.{Setpoints}
+use Rattle.types.specs.declared.stages.Stage.{Stage}
+use Rattle.types.specs.declared.stages.Stage.the-variants.{Idle, StartDelay, LargeDisable, LargeFlow, MediumDisable, MediumFlow, SmallDisable, SmallFlow, JudgeDelay, JudgeWait}
+use Rattle.types.specs.declared.stages.SequenceError.{SequenceError}
+use Rattle.types.specs.declared.stages.SequenceError.the-variants as error
+use Rattle.types.specs.declared.stages.Sequence.{Sequence}
+use Rattle.types.specs.declared.stages.Facts.{Facts}
+use Rattle.types.specs.declared.stages.Timing.the-variants as timing
+use Rattle.types.specs.declared.stages.Move.{Move}
+use Rattle.types.specs.declared.stages.Move.the-variants.{To, Fail, Finish}
+use Rattle.types.specs.declared.stages.Advanced.{Advanced}
+use Rattle.types.specs.declared.stages.Totals.{Totals}
+use Rattle.types.specs.declared.machine.State.{State}
+use Rattle.types.specs.declared.machine.Input.{Input}
+use Rattle.types.specs.declared.machine.Settled.{Settled}
 use Rattle.outline.specs.Setpoints.{noLargeFlow}
 use Rattle.outline.specs.Stages.{comparedOf, factsOf, waitOf, timed, until, afterLarge, firstFlow, afterStart, judgedOf, moveOf, idleOf, flowingOf, clockOf, lateOf, failedOf, startSequence, stopSequence, landOf, advanceOf}
 use Rattle.outline.specs.Totals.{bookable, bookedSequence}

@@ -2,15 +2,15 @@
 use mathlib.Core.Path.{_≡_, refl}
 use mathlib.Core.Bool.{true}
 use borrow.Author.Tests.{not-false}
-use Rattle.outline.specs.declared.settings.Mode.{Mode}
-use Rattle.outline.specs.declared.settings.Mode.the-variants as mode
-use Rattle.outline.specs.declared.settings.Settings.{Settings}
-use Rattle.outline.specs.declared.weight.Weights.{Weights}
-use Rattle.outline.specs.declared.requests.Request.{Request}
-use Rattle.outline.specs.declared.requests.Request.the-variants as request
-use Rattle.outline.specs.declared.stages.Setpoints.{Setpoints}
-use Rattle.outline.specs.declared.machine.State.{State}
-use Rattle.outline.specs.declared.machine.Input.{Input}
+use Rattle.types.specs.declared.settings.Mode.{Mode}
+use Rattle.types.specs.declared.settings.Mode.the-variants as mode
+use Rattle.types.specs.declared.settings.Settings.{Settings}
+use Rattle.types.specs.declared.weight.Weights.{Weights}
+use Rattle.types.specs.declared.requests.Request.{Request}
+use Rattle.types.specs.declared.requests.Request.the-variants as request
+use Rattle.types.specs.declared.stages.Setpoints.{Setpoints}
+use Rattle.types.specs.declared.machine.State.{State}
+use Rattle.types.specs.declared.machine.Input.{Input}
 use Rattle.outline.specs.Setpoints.{openSetpoints, setpointsFit}
 use Rattle.outline.specs.Requests.{rowsTo, doneOf, rulingOf, grantedOf, settledBy}
 use Rattle.outline.specs.Tick.{enteredOf, settledOf, servedOf, nextOf}

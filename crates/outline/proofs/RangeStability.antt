@@ -4,17 +4,17 @@ use native.Mathlib.Omega.{arith}
 use mathlib.Core.Path.{_≡_, refl}
 use mathlib.Core.Bool.{_&&_}
 use lib.IntN.{ℤ, _-ℤ_}
-use Rattle.outline.specs.declared.settings.Steadiness.{Steadiness}
-use Rattle.outline.specs.declared.settings.Settings.{Settings}
-use Rattle.outline.specs.declared.weight.Raw.{Raw}
-use Rattle.outline.specs.declared.weight.Raw.the-variants.{Bad, Tenths}
-use Rattle.outline.specs.declared.weight.Stability.{Stability}
-use Rattle.outline.specs.declared.weight.Weights.{Weights}
-use Rattle.outline.specs.declared.requests.Request.{Request}
-use Rattle.outline.specs.declared.requests.Request.the-variants as request
-use Rattle.outline.specs.declared.machine.State.{State}
-use Rattle.outline.specs.declared.machine.Input.{Input}
-use Rattle.outline.specs.declared.machine.Settled.{Settled}
+use Rattle.types.specs.declared.settings.Steadiness.{Steadiness}
+use Rattle.types.specs.declared.settings.Settings.{Settings}
+use Rattle.types.specs.declared.weight.Raw.{Raw}
+use Rattle.types.specs.declared.weight.Raw.the-variants.{Bad, Tenths}
+use Rattle.types.specs.declared.weight.Stability.{Stability}
+use Rattle.types.specs.declared.weight.Weights.{Weights}
+use Rattle.types.specs.declared.requests.Request.{Request}
+use Rattle.types.specs.declared.requests.Request.the-variants as request
+use Rattle.types.specs.declared.machine.State.{State}
+use Rattle.types.specs.declared.machine.Input.{Input}
+use Rattle.types.specs.declared.machine.Settled.{Settled}
 use Rattle.outline.specs.Settings.{within}
 use Rattle.outline.specs.Weight.{rawOf, steadiedOf}
 use Rattle.outline.specs.Requests.{grantedOf, settledBy}

@@ -12,19 +12,19 @@ use lib.Signed.{leZ}
 use borrow.Author.Tests.{leb-true, leb-false, ltb-false, not-true, not-false}
 use Rattle.whole.specs.Limit.{limit-le, limit-least}
 use Rattle.whole.specs.Ints.{ints, linear, int-elim, ints3, abs-mul, abs-sub}
-use Rattle.outline.specs.declared.settings.Range.{Range}
-use Rattle.outline.specs.declared.settings.Tracking.{Tracking}
-use Rattle.outline.specs.declared.settings.Settings.{Settings}
-use Rattle.outline.specs.declared.weight.Raw.{Raw}
-use Rattle.outline.specs.declared.weight.Raw.the-variants.{Bad, Tenths}
-use Rattle.outline.specs.declared.weight.Stability.{Stability}
-use Rattle.outline.specs.declared.weight.Weighing.{Weighing}
-use Rattle.outline.specs.declared.weight.Weights.{Weights}
-use Rattle.outline.specs.declared.requests.Request.{Request}
-use Rattle.outline.specs.declared.requests.Request.the-variants as request
-use Rattle.outline.specs.declared.machine.State.{State}
-use Rattle.outline.specs.declared.machine.Input.{Input}
-use Rattle.outline.specs.declared.machine.Settled.{Settled}
+use Rattle.types.specs.declared.settings.Range.{Range}
+use Rattle.types.specs.declared.settings.Tracking.{Tracking}
+use Rattle.types.specs.declared.settings.Settings.{Settings}
+use Rattle.types.specs.declared.weight.Raw.{Raw}
+use Rattle.types.specs.declared.weight.Raw.the-variants.{Bad, Tenths}
+use Rattle.types.specs.declared.weight.Stability.{Stability}
+use Rattle.types.specs.declared.weight.Weighing.{Weighing}
+use Rattle.types.specs.declared.weight.Weights.{Weights}
+use Rattle.types.specs.declared.requests.Request.{Request}
+use Rattle.types.specs.declared.requests.Request.the-variants as request
+use Rattle.types.specs.declared.machine.State.{State}
+use Rattle.types.specs.declared.machine.Input.{Input}
+use Rattle.types.specs.declared.machine.Settled.{Settled}
 use Rattle.outline.specs.Limits.{overloadMargin, displayLimit}
 use Rattle.outline.specs.Settings.{within}
 use Rattle.outline.specs.Weight.{rawOf, divisionsOf, grossOf, keptOf, weighOf, fitOf}

@@ -7,8 +7,8 @@ use lib.IntN.{ℤ, pos, natAbs, _-ℤ_, _*ℤ_}
 use borrow.Author.Tests.{leb-true, le-leb}
 use Rattle.whole.specs.Ints.{ints, linear, ints2, abs-mul}
 use Rattle.whole.specs.Nearest.{nearestN, nearest-scaled, abs-nearest}
-use Rattle.outline.specs.declared.settings.Calibration.{Calibration}
-use Rattle.outline.specs.declared.weight.Raw.the-variants.{Bad, Tenths}
+use Rattle.types.specs.declared.settings.Calibration.{Calibration}
+use Rattle.types.specs.declared.weight.Raw.the-variants.{Bad, Tenths}
 use Rattle.outline.specs.Limits.{countLimit, rawLimit}
 use Rattle.outline.specs.Weight.{goodCount, tenthsOf, rawOf}
 use Rattle.outline.specs.Owed.{RawLaw}

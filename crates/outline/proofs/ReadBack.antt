@@ -8,24 +8,24 @@ use mathlib.Core.List.{List, [], _∷_}
 use lib.Dec.{leb, ltb, eqb}
 use lib.ListN.{length, getD}
 use lib.IntN.{ℤ}
-use Rattle.outline.specs.declared.settings.Settings.{Settings}
-use Rattle.outline.specs.declared.requests.Request.the-variants as request
-use Rattle.outline.specs.declared.requests.Outcome.{Outcome}
-use Rattle.outline.specs.declared.requests.Outcome.the-variants as outcome
-use Rattle.outline.specs.declared.stages.Setpoints.{Setpoints}
-use Rattle.outline.specs.declared.machine.State.{State}
-use Rattle.outline.specs.declared.machine.Input.{Input}
-use Rattle.outline.specs.declared.lines.LineKind.{LineKind}
-use Rattle.outline.specs.declared.lines.LineKind.the-variants as kind
-use Rattle.outline.specs.declared.lines.Letters.{Letters}
-use Rattle.outline.specs.declared.lines.Letters.the-variants as letters
-use Rattle.outline.specs.declared.lines.Fields.{Fields}
-use Rattle.outline.specs.declared.lines.Fields.the-variants.{Points, Wrong}
-use Rattle.outline.specs.declared.lines.Word.the-variants as word
-use Rattle.outline.specs.declared.lines.Command.{Command}
-use Rattle.outline.specs.declared.lines.Command.the-variants as command
-use Rattle.outline.specs.declared.lines.LineAnswer.the-variants as told
-use Rattle.outline.specs.declared.lines.LineTick.{LineTick}
+use Rattle.types.specs.declared.settings.Settings.{Settings}
+use Rattle.types.specs.declared.requests.Request.the-variants as request
+use Rattle.types.specs.declared.requests.Outcome.{Outcome}
+use Rattle.types.specs.declared.requests.Outcome.the-variants as outcome
+use Rattle.types.specs.declared.stages.Setpoints.{Setpoints}
+use Rattle.types.specs.declared.machine.State.{State}
+use Rattle.types.specs.declared.machine.Input.{Input}
+use Rattle.types.specs.declared.lines.LineKind.{LineKind}
+use Rattle.types.specs.declared.lines.LineKind.the-variants as kind
+use Rattle.types.specs.declared.lines.Letters.{Letters}
+use Rattle.types.specs.declared.lines.Letters.the-variants as letters
+use Rattle.types.specs.declared.lines.Fields.{Fields}
+use Rattle.types.specs.declared.lines.Fields.the-variants.{Points, Wrong}
+use Rattle.types.specs.declared.lines.Word.the-variants as word
+use Rattle.types.specs.declared.lines.Command.{Command}
+use Rattle.types.specs.declared.lines.Command.the-variants as command
+use Rattle.types.specs.declared.lines.LineAnswer.the-variants as told
+use Rattle.types.specs.declared.lines.LineTick.{LineTick}
 use Rattle.outline.specs.Tick.{settledOf, servedOf, nextOf}
 use Rattle.outline.specs.Lines.{lineOf, kindOf, prefixLength, isPrefixed, lettersOf, fieldsOf, setOf, decodeOf, bodyOf, spokenOf, commandAt, commandOf, requestOf}
 use Rattle.outline.specs.Replies.{framed, replyText, replyDue, pointsText, outcomeTold, toldOf, askedOf, unaskedOf, dueText, lineTickOf}

@@ -6,10 +6,10 @@ use lib.Dec.{leb}
 use lib.ListN.{length}
 use lib.IntN.{ℤ}
 use borrow.Author.Tests.{le-leb}
-use Rattle.outline.specs.declared.settings.Settings.{Settings}
-use Rattle.outline.specs.declared.machine.State.{State}
-use Rattle.outline.specs.declared.machine.Input.{Input}
-use Rattle.outline.specs.declared.lines.LineTick.{LineTick}
+use Rattle.types.specs.declared.settings.Settings.{Settings}
+use Rattle.types.specs.declared.machine.State.{State}
+use Rattle.types.specs.declared.machine.Input.{Input}
+use Rattle.types.specs.declared.lines.LineTick.{LineTick}
 use Rattle.outline.specs.Limits.{blockLimit}
 use Rattle.outline.specs.Tick.{nextOf, tickOf, countIn, blockOf}
 use Rattle.outline.specs.Replies.{askedOf, unaskedOf, dueText, lineTickOf}

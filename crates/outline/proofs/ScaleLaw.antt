@@ -6,8 +6,8 @@ use lib.Dec.{T}
 use lib.IntN.{ℤ, natAbs}
 use borrow.Author.Tests.{leb-true}
 use Rattle.whole.specs.Ints.{eqZ, eqZ-yes}
-use Rattle.outline.specs.declared.settings.Given.{Given}
-use Rattle.outline.specs.declared.settings.Settings.{Settings}
+use Rattle.types.specs.declared.settings.Given.{Given}
+use Rattle.types.specs.declared.settings.Settings.{Settings}
 use Rattle.outline.specs.Limits.{endLimit}
 use Rattle.outline.specs.Settings.{fromTo, within, analogFits, settingsOf}
 use Rattle.outline.specs.Analog.{scaleOf}

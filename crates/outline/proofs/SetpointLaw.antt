@@ -7,9 +7,9 @@ use mathlib.Core.Logic.{_⊎_, inl, inr, ⊎-elim}
 use native.Mathlib.Omega.{arith}
 use lib.Dec.{leb, ltb, eqb}
 use borrow.Author.Tests.{leb-true, le-leb, ltb-true, lt-ltb, eqb-true, eq-eqb}
-use Rattle.outline.specs.declared.settings.Mode.{Mode}
-use Rattle.outline.specs.declared.settings.Mode.the-variants as mode
-use Rattle.outline.specs.declared.stages.Setpoints.{Setpoints}
+use Rattle.types.specs.declared.settings.Mode.{Mode}
+use Rattle.types.specs.declared.settings.Mode.the-variants as mode
+use Rattle.types.specs.declared.stages.Setpoints.{Setpoints}
 use Rattle.outline.specs.Limits.{setpointLimit}
 use Rattle.outline.specs.Setpoints.{sevenFit, fallFits, preliminaryFits, optionalFits, setpointsFit}
 use Rattle.outline.specs.Owed.{Kept, SetpointLaw}

@@ -1,16 +1,16 @@
 -- What a day close answers is the book that the same tick without the close would have left. Assumes nothing.
 use mathlib.Core.Path.{_≡_, refl, sym, ap, _∙_}
 use mathlib.Core.Bool.{Bool, false}
-use Rattle.outline.specs.declared.weight.Raw.{Raw}
-use Rattle.outline.specs.declared.weight.Raw.the-variants.{Bad, Tenths}
-use Rattle.outline.specs.declared.weight.Weights.{Weights}
-use Rattle.outline.specs.declared.daybook.Book.{Book}
-use Rattle.outline.specs.declared.daybook.Closed.the-variants as closed
-use Rattle.outline.specs.declared.requests.Request.{Request}
-use Rattle.outline.specs.declared.requests.Request.the-variants as request
-use Rattle.outline.specs.declared.requests.Outcome.{Outcome}
-use Rattle.outline.specs.declared.requests.Outcome.the-variants as outcome
-use Rattle.outline.specs.declared.machine.State.{State}
+use Rattle.types.specs.declared.weight.Raw.{Raw}
+use Rattle.types.specs.declared.weight.Raw.the-variants.{Bad, Tenths}
+use Rattle.types.specs.declared.weight.Weights.{Weights}
+use Rattle.types.specs.declared.daybook.Book.{Book}
+use Rattle.types.specs.declared.daybook.Closed.the-variants as closed
+use Rattle.types.specs.declared.requests.Request.{Request}
+use Rattle.types.specs.declared.requests.Request.the-variants as request
+use Rattle.types.specs.declared.requests.Outcome.{Outcome}
+use Rattle.types.specs.declared.requests.Outcome.the-variants as outcome
+use Rattle.types.specs.declared.machine.State.{State}
 use Rattle.outline.specs.Weight.{rawOf}
 use Rattle.outline.specs.DayBook.{bookOf}
 use Rattle.outline.specs.Requests.{grantedOf, settling, settledBy}

@@ -5,7 +5,7 @@ use mathlib.Core.Path.{_≡_, refl, ap, _∙_}
 use mathlib.Core.Bool.{Bool, true, false, cond}
 use lib.Dec.{leb, ltb}
 use borrow.Author.Tests.{ltb-false, leb-true, leb-false, lt-ltb, le-ltb}
-use Rattle.outline.specs.declared.stages.Timing.the-variants as timing
+use Rattle.types.specs.declared.stages.Timing.the-variants as timing
 use Rattle.outline.specs.Stages.{waitOf}
 use Rattle.outline.specs.Owed.{oneMore, TimedLaw}
 

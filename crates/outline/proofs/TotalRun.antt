@@ -1,8 +1,8 @@
 -- The total and the count of any run are those of its ledger. Assumes nothing.
 use mathlib.Core.Path.{refl}
 use native.Mathlib.Omega.{arith}
-use Rattle.outline.specs.declared.settings.Settings.{Settings}
-use Rattle.outline.specs.declared.machine.Input.{Input}
+use Rattle.types.specs.declared.settings.Settings.{Settings}
+use Rattle.types.specs.declared.machine.Input.{Input}
 use Rattle.outline.specs.Tick.{openState}
 use Rattle.outline.specs.Run.{History, start, _▷_, runOf}
 use Rattle.outline.specs.Ledger.{batchRun, ledgerOf}

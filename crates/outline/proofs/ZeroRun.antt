@@ -3,8 +3,8 @@ use mathlib.Core.Path.{refl, subst}
 use Prim.Native.Nat.{_≤_}
 use native.Mathlib.Omega.{arith}
 use lib.IntN.{ℤ, natAbs}
-use Rattle.outline.specs.declared.settings.Settings.{Settings}
-use Rattle.outline.specs.declared.machine.Input.{Input}
+use Rattle.types.specs.declared.settings.Settings.{Settings}
+use Rattle.types.specs.declared.machine.Input.{Input}
 use Rattle.outline.specs.Tick.{openState}
 use Rattle.outline.specs.Run.{History, start, _▷_, runOf}
 use Rattle.outline.specs.Zeroing.{seenRun, zeroingOf}

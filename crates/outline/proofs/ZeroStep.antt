@@ -10,18 +10,18 @@ use lib.Dec.{leb, ltb, eqb}
 use lib.IntN.{ℤ, pos, natAbs, _+ℤ_, _-ℤ_}
 use borrow.Author.Tests.{leb-true, leb-false, ltb-true, eqb-true, eq-eqb, ne-eqb}
 use Rattle.whole.specs.Ints.{ints, linear, ints3}
-use Rattle.outline.specs.declared.settings.Tracking.{Tracking}
-use Rattle.outline.specs.declared.settings.Settings.{Settings}
-use Rattle.outline.specs.declared.weight.Raw.{Raw}
-use Rattle.outline.specs.declared.weight.Raw.the-variants.{Bad, Tenths}
-use Rattle.outline.specs.declared.weight.Stability.{Stability}
-use Rattle.outline.specs.declared.weight.Weighing.{Weighing}
-use Rattle.outline.specs.declared.weight.Weights.{Weights}
-use Rattle.outline.specs.declared.requests.Request.{Request}
-use Rattle.outline.specs.declared.requests.Request.the-variants as request
-use Rattle.outline.specs.declared.machine.State.{State}
-use Rattle.outline.specs.declared.machine.Input.{Input}
-use Rattle.outline.specs.declared.machine.Settled.{Settled}
+use Rattle.types.specs.declared.settings.Tracking.{Tracking}
+use Rattle.types.specs.declared.settings.Settings.{Settings}
+use Rattle.types.specs.declared.weight.Raw.{Raw}
+use Rattle.types.specs.declared.weight.Raw.the-variants.{Bad, Tenths}
+use Rattle.types.specs.declared.weight.Stability.{Stability}
+use Rattle.types.specs.declared.weight.Weighing.{Weighing}
+use Rattle.types.specs.declared.weight.Weights.{Weights}
+use Rattle.types.specs.declared.requests.Request.{Request}
+use Rattle.types.specs.declared.requests.Request.the-variants as request
+use Rattle.types.specs.declared.machine.State.{State}
+use Rattle.types.specs.declared.machine.Input.{Input}
+use Rattle.types.specs.declared.machine.Settled.{Settled}
 use Rattle.outline.specs.Settings.{within}
 use Rattle.outline.specs.Weight.{rawOf, weighOf}
 use Rattle.outline.specs.Zero.{inZeroRange, trackingOn, calmOf, mayMove, withCounter, movedOf, countedUp, trackedOf}

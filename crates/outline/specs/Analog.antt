@@ -2,11 +2,11 @@
 use mathlib.Core.Bool.{Bool, cond}
 use lib.IntN.{ℤ, pos}
 use lib.Ieee.{Float, binary64, ofInt, add, sub, mul, div, lt}
-use Rattle.outline.specs.declared.analog.Scale.{Scale}
-use Rattle.outline.specs.declared.analog.Board.{Board}
-use Rattle.outline.specs.declared.analog.Board.the-variants as board
-use Rattle.outline.specs.declared.analog.Analog.{Analog}
-use Rattle.outline.specs.declared.analog.Analog.the-variants as analog
+use Rattle.types.specs.declared.analog.Scale.{Scale}
+use Rattle.types.specs.declared.analog.Board.{Board}
+use Rattle.types.specs.declared.analog.Board.the-variants as board
+use Rattle.types.specs.declared.analog.Analog.{Analog}
+use Rattle.types.specs.declared.analog.Analog.the-variants as analog
 
 -- a whole number as an f64
 abbrev pub f64 : ℤ → Float

@@ -7,11 +7,11 @@ use lib.Dec.{T}
 use lib.IntN.{ℤ, pos, natAbs, _-ℤ_}
 use lib.Signed.{leZ, ltZ}
 use lib.Ieee.{Float, fin, binary64, round, add, le}
-use Rattle.outline.specs.declared.settings.Given.{Given}
-use Rattle.outline.specs.declared.settings.Settings.{Settings}
-use Rattle.outline.specs.declared.settings.Opening.the-variants as opening
-use Rattle.outline.specs.declared.analog.Board.the-variants as board
-use Rattle.outline.specs.declared.analog.Analog.the-variants as analog
+use Rattle.types.specs.declared.settings.Given.{Given}
+use Rattle.types.specs.declared.settings.Settings.{Settings}
+use Rattle.types.specs.declared.settings.Opening.the-variants as opening
+use Rattle.types.specs.declared.analog.Board.the-variants as board
+use Rattle.types.specs.declared.analog.Analog.the-variants as analog
 use Rattle.outline.specs.Limits.{endLimit, displayLimit}
 use Rattle.outline.specs.Settings.{openOf}
 use Rattle.outline.specs.Analog.{f64, scaleOf, distanceOf, currentOf, voltageOf, analogOf}

@@ -4,11 +4,11 @@ use mathlib.Core.Bool.{Bool, true, false, cond, not, _&&_}
 use mathlib.Core.List.{List, [], _∷_}
 use lib.Dec.{leb}
 use lib.IntN.{ℤ, pos, negℤ, natAbs, _+ℤ_, _-ℤ_}
-use Rattle.outline.specs.declared.settings.Calibration.{Calibration}
-use Rattle.outline.specs.declared.daybook.Book.{Book}
-use Rattle.outline.specs.declared.requests.Request.{Request}
-use Rattle.outline.specs.declared.requests.Request.the-variants as request
-use Rattle.outline.specs.declared.machine.Input.{Input}
+use Rattle.types.specs.declared.settings.Calibration.{Calibration}
+use Rattle.types.specs.declared.daybook.Book.{Book}
+use Rattle.types.specs.declared.requests.Request.{Request}
+use Rattle.types.specs.declared.requests.Request.the-variants as request
+use Rattle.types.specs.declared.machine.Input.{Input}
 use Rattle.outline.specs.Limits.{countLimit, dayTicks}
 use Rattle.outline.specs.Weight.{tenthsOf}
 use Rattle.outline.specs.Run.{History, start, _▷_}

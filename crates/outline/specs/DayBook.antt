@@ -4,9 +4,9 @@ use mathlib.Core.Bool.{Bool, true, false, cond, not, _&&_}
 use lib.Dec.{ltb}
 use lib.IntN.{ℤ, pos, _+ℤ_, _-ℤ_}
 use Rattle.whole.specs.Limit.{limitTo}
-use Rattle.outline.specs.declared.weight.Raw.{Raw}
-use Rattle.outline.specs.declared.weight.Raw.the-variants.{Bad, Tenths}
-use Rattle.outline.specs.declared.daybook.Book.{Book}
+use Rattle.types.specs.declared.weight.Raw.{Raw}
+use Rattle.types.specs.declared.weight.Raw.the-variants.{Bad, Tenths}
+use Rattle.types.specs.declared.daybook.Book.{Book}
 use Rattle.outline.specs.Limits.{dayTicks, bookLimit}
 
 -- no good tick yet; opening and last are answered as 0

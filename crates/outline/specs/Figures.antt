@@ -7,16 +7,16 @@ use mathlib.Core.List.{List, [], _∷_, foldl}
 use lib.ListN.{replicate, getD, set}
 use lib.IntN.{ℤ, pos, negsuc, _+ℤ_, _-ℤ_}
 use lib.Ieee.{fin}
-use Rattle.outline.specs.declared.settings.Given.{Given}
-use Rattle.outline.specs.declared.settings.Settings.{Settings}
-use Rattle.outline.specs.declared.settings.Opening.the-variants as opening
-use Rattle.outline.specs.declared.analog.Analog.the-variants as analog
-use Rattle.outline.specs.declared.requests.Request.{Request}
-use Rattle.outline.specs.declared.requests.Request.the-variants as request
-use Rattle.outline.specs.declared.stages.Setpoints.{Setpoints}
-use Rattle.outline.specs.declared.machine.State.{State}
-use Rattle.outline.specs.declared.machine.Answer.{Answer}
-use Rattle.outline.specs.declared.machine.Ticked.{Ticked}
+use Rattle.types.specs.declared.settings.Given.{Given}
+use Rattle.types.specs.declared.settings.Settings.{Settings}
+use Rattle.types.specs.declared.settings.Opening.the-variants as opening
+use Rattle.types.specs.declared.analog.Analog.the-variants as analog
+use Rattle.types.specs.declared.requests.Request.{Request}
+use Rattle.types.specs.declared.requests.Request.the-variants as request
+use Rattle.types.specs.declared.stages.Setpoints.{Setpoints}
+use Rattle.types.specs.declared.machine.State.{State}
+use Rattle.types.specs.declared.machine.Answer.{Answer}
+use Rattle.types.specs.declared.machine.Ticked.{Ticked}
 use Rattle.outline.specs.Settings.{settingsFit, settingsOf, openOf}
 use Rattle.outline.specs.Tick.{openState, openedOf, tickOf, countIn}
 use Rattle.outline.specs.Numbers.{openingNumber, outcomeNumber, closedValues}

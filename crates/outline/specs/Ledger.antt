@@ -6,13 +6,13 @@ use lib.Dec.{leb}
 use lib.ListN.{length}
 use lib.IntN.{ℤ, natAbs}
 use lib.Signed.{nonNeg}
-use Rattle.outline.specs.declared.settings.Settings.{Settings}
-use Rattle.outline.specs.declared.requests.Request.{Request}
-use Rattle.outline.specs.declared.requests.Request.the-variants as request
-use Rattle.outline.specs.declared.stages.Batch.{Batch}
-use Rattle.outline.specs.declared.stages.Batch.the-variants as batch
-use Rattle.outline.specs.declared.machine.State.{State}
-use Rattle.outline.specs.declared.machine.Input.{Input}
+use Rattle.types.specs.declared.settings.Settings.{Settings}
+use Rattle.types.specs.declared.requests.Request.{Request}
+use Rattle.types.specs.declared.requests.Request.the-variants as request
+use Rattle.types.specs.declared.stages.Batch.{Batch}
+use Rattle.types.specs.declared.stages.Batch.the-variants as batch
+use Rattle.types.specs.declared.machine.State.{State}
+use Rattle.types.specs.declared.machine.Input.{Input}
 use Rattle.outline.specs.Limits.{totalLimit, batchLimit}
 use Rattle.outline.specs.Stages.{comparedOf, factsOf, advanceOf}
 use Rattle.outline.specs.Tick.{settledOf, servedOf}

@@ -4,22 +4,22 @@ use mathlib.Core.List.{List, [], _∷_}
 use mathlib.Core.Bool.{Bool, true, cond, _&&_}
 use lib.ListN.{length, getD, take, drop}
 use lib.Dec.{leb, ltb, eqb}
-use Rattle.outline.specs.declared.requests.Request.{Request}
-use Rattle.outline.specs.declared.requests.Request.the-variants as request
-use Rattle.outline.specs.declared.lines.LineEnd.{LineEnd}
-use Rattle.outline.specs.declared.lines.LineEnd.the-variants.{Missing, Beyond, At}
-use Rattle.outline.specs.declared.lines.LineKind.{LineKind}
-use Rattle.outline.specs.declared.lines.LineKind.the-variants as kind
-use Rattle.outline.specs.declared.lines.Word.{Word}
-use Rattle.outline.specs.declared.lines.Word.the-variants as word
-use Rattle.outline.specs.declared.lines.Letters.{Letters}
-use Rattle.outline.specs.declared.lines.Letters.the-variants as letters
-use Rattle.outline.specs.declared.lines.Digits.{Digits}
-use Rattle.outline.specs.declared.lines.Digits.the-variants.{Number, NotDigits}
-use Rattle.outline.specs.declared.lines.Fields.{Fields}
-use Rattle.outline.specs.declared.lines.Fields.the-variants.{Points, Wrong}
-use Rattle.outline.specs.declared.lines.Command.{Command}
-use Rattle.outline.specs.declared.lines.Command.the-variants as command
+use Rattle.types.specs.declared.requests.Request.{Request}
+use Rattle.types.specs.declared.requests.Request.the-variants as request
+use Rattle.types.specs.declared.lines.LineEnd.{LineEnd}
+use Rattle.types.specs.declared.lines.LineEnd.the-variants.{Missing, Beyond, At}
+use Rattle.types.specs.declared.lines.LineKind.{LineKind}
+use Rattle.types.specs.declared.lines.LineKind.the-variants as kind
+use Rattle.types.specs.declared.lines.Word.{Word}
+use Rattle.types.specs.declared.lines.Word.the-variants as word
+use Rattle.types.specs.declared.lines.Letters.{Letters}
+use Rattle.types.specs.declared.lines.Letters.the-variants as letters
+use Rattle.types.specs.declared.lines.Digits.{Digits}
+use Rattle.types.specs.declared.lines.Digits.the-variants.{Number, NotDigits}
+use Rattle.types.specs.declared.lines.Fields.{Fields}
+use Rattle.types.specs.declared.lines.Fields.the-variants.{Points, Wrong}
+use Rattle.types.specs.declared.lines.Command.{Command}
+use Rattle.types.specs.declared.lines.Command.the-variants as command
 use Rattle.outline.specs.Limits.{lineLimit}
 
 -- ---- the line

@@ -6,16 +6,16 @@ use mathlib.Core.Bool.{Bool, cond, _&&_, _||_}
 use lib.ListN.{length, getD, take, drop}
 use lib.Dec.{leb, eqb}
 use lib.IntN.{ℤ, pos, negℤ}
-use Rattle.outline.specs.declared.settings.Settings.{Settings}
-use Rattle.outline.specs.declared.machine.State.{State}
-use Rattle.outline.specs.declared.lines.LineTick.{LineTick}
-use Rattle.outline.specs.declared.lines.LineAnswer.the-variants as told
-use Rattle.outline.specs.declared.log.LogNumber.{LogNumber}
-use Rattle.outline.specs.declared.log.LogNumber.the-variants as number
-use Rattle.outline.specs.declared.log.LogLine.{LogLine}
-use Rattle.outline.specs.declared.log.LogLine.the-variants as logline
-use Rattle.outline.specs.declared.log.LogTick.{LogTick}
-use Rattle.outline.specs.declared.log.LogTick.the-variants as logtick
+use Rattle.types.specs.declared.settings.Settings.{Settings}
+use Rattle.types.specs.declared.machine.State.{State}
+use Rattle.types.specs.declared.lines.LineTick.{LineTick}
+use Rattle.types.specs.declared.lines.LineAnswer.the-variants as told
+use Rattle.types.specs.declared.log.LogNumber.{LogNumber}
+use Rattle.types.specs.declared.log.LogNumber.the-variants as number
+use Rattle.types.specs.declared.log.LogLine.{LogLine}
+use Rattle.types.specs.declared.log.LogLine.the-variants as logline
+use Rattle.types.specs.declared.log.LogTick.{LogTick}
+use Rattle.types.specs.declared.log.LogTick.the-variants as logtick
 use Rattle.outline.specs.Limits.{numberDigits, requestLimit}
 use Rattle.outline.specs.Lines.{isDigit}
 use Rattle.outline.specs.Tick.{tickOf}

@@ -4,7 +4,7 @@ use mathlib.Core.Bool.{true, false}
 use mathlib.Core.List.{List, [], _∷_, _++_}
 use lib.ListN.{replicate}
 use lib.IntN.{pos, negsuc}
-use Rattle.outline.specs.declared.log.LogLine.the-variants.{Tick, Unreadable}
+use Rattle.types.specs.declared.log.LogLine.the-variants.{Tick, Unreadable}
 use Rattle.outline.specs.Log.{logLineOf, isNone}
 use Rattle.outline.specs.Worked.{ascii}
 

@@ -4,28 +4,28 @@ use Prim.Native.Nat.{ℕ}
 use mathlib.Core.List.{List, [], _∷_}
 use lib.IntN.{ℤ}
 use lib.Ieee.{Float}
-use Rattle.outline.specs.declared.settings.Opening.{Opening}
-use Rattle.outline.specs.declared.settings.Opening.the-variants as opening
-use Rattle.outline.specs.declared.analog.Analog.{Analog}
-use Rattle.outline.specs.declared.analog.Analog.the-variants as analog
-use Rattle.outline.specs.declared.daybook.Closed.{Closed}
-use Rattle.outline.specs.declared.daybook.Closed.the-variants as closed
-use Rattle.outline.specs.declared.requests.Refusal.{Refusal}
-use Rattle.outline.specs.declared.requests.Refusal.the-variants as refusal
-use Rattle.outline.specs.declared.requests.Outcome.{Outcome}
-use Rattle.outline.specs.declared.requests.Outcome.the-variants as outcome
-use Rattle.outline.specs.declared.stages.Stage.{Stage}
-use Rattle.outline.specs.declared.stages.Stage.the-variants as stage
-use Rattle.outline.specs.declared.stages.Judgement.{Judgement}
-use Rattle.outline.specs.declared.stages.Judgement.the-variants as judgement
-use Rattle.outline.specs.declared.stages.SequenceError.{SequenceError}
-use Rattle.outline.specs.declared.stages.SequenceError.the-variants as error
-use Rattle.outline.specs.declared.machine.BlockAnswer.{BlockAnswer}
-use Rattle.outline.specs.declared.machine.BlockAnswer.the-variants as block
-use Rattle.outline.specs.declared.lines.LineKind.{LineKind}
-use Rattle.outline.specs.declared.lines.LineKind.the-variants as kind
-use Rattle.outline.specs.declared.lines.LineAnswer.{LineAnswer}
-use Rattle.outline.specs.declared.lines.LineAnswer.the-variants as told
+use Rattle.types.specs.declared.settings.Opening.{Opening}
+use Rattle.types.specs.declared.settings.Opening.the-variants as opening
+use Rattle.types.specs.declared.analog.Analog.{Analog}
+use Rattle.types.specs.declared.analog.Analog.the-variants as analog
+use Rattle.types.specs.declared.daybook.Closed.{Closed}
+use Rattle.types.specs.declared.daybook.Closed.the-variants as closed
+use Rattle.types.specs.declared.requests.Refusal.{Refusal}
+use Rattle.types.specs.declared.requests.Refusal.the-variants as refusal
+use Rattle.types.specs.declared.requests.Outcome.{Outcome}
+use Rattle.types.specs.declared.requests.Outcome.the-variants as outcome
+use Rattle.types.specs.declared.stages.Stage.{Stage}
+use Rattle.types.specs.declared.stages.Stage.the-variants as stage
+use Rattle.types.specs.declared.stages.Judgement.{Judgement}
+use Rattle.types.specs.declared.stages.Judgement.the-variants as judgement
+use Rattle.types.specs.declared.stages.SequenceError.{SequenceError}
+use Rattle.types.specs.declared.stages.SequenceError.the-variants as error
+use Rattle.types.specs.declared.machine.BlockAnswer.{BlockAnswer}
+use Rattle.types.specs.declared.machine.BlockAnswer.the-variants as block
+use Rattle.types.specs.declared.lines.LineKind.{LineKind}
+use Rattle.types.specs.declared.lines.LineKind.the-variants as kind
+use Rattle.types.specs.declared.lines.LineAnswer.{LineAnswer}
+use Rattle.types.specs.declared.lines.LineAnswer.the-variants as told
 
 -- settings: 0 for accepted is the house's
 abbrev pub openingNumber : Opening → ℕ

@@ -6,15 +6,15 @@ use mathlib.Core.Bool.{true, false, cond}
 use mathlib.Core.Logic.{_⊎_}
 use lib.Dec.{ltb}
 use lib.IntN.{ℤ, natAbs}
-use Rattle.outline.specs.declared.settings.Given.{Given}
-use Rattle.outline.specs.declared.settings.Mode.{Mode}
-use Rattle.outline.specs.declared.settings.Mode.the-variants as mode
-use Rattle.outline.specs.declared.settings.Settings.{Settings}
-use Rattle.outline.specs.declared.settings.Opening.the-variants as opening
-use Rattle.outline.specs.declared.weight.Raw.the-variants.{Bad, Tenths}
-use Rattle.outline.specs.declared.stages.Setpoints.{Setpoints}
-use Rattle.outline.specs.declared.stages.Timing.{Timing}
-use Rattle.outline.specs.declared.stages.Timing.the-variants as timing
+use Rattle.types.specs.declared.settings.Given.{Given}
+use Rattle.types.specs.declared.settings.Mode.{Mode}
+use Rattle.types.specs.declared.settings.Mode.the-variants as mode
+use Rattle.types.specs.declared.settings.Settings.{Settings}
+use Rattle.types.specs.declared.settings.Opening.the-variants as opening
+use Rattle.types.specs.declared.weight.Raw.the-variants.{Bad, Tenths}
+use Rattle.types.specs.declared.stages.Setpoints.{Setpoints}
+use Rattle.types.specs.declared.stages.Timing.{Timing}
+use Rattle.types.specs.declared.stages.Timing.the-variants as timing
 use Rattle.outline.specs.Limits.{rawLimit, setpointLimit}
 use Rattle.outline.specs.Settings.{openOf}
 use Rattle.outline.specs.Weight.{goodCount, tenthsOf, rawOf}

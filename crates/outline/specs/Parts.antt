@@ -1,13 +1,13 @@
 -- The state with one part made anew, and one of two states picked part by part. Nothing of the outline stands here.
 use mathlib.Core.Bool.{Bool, cond}
-use Rattle.outline.specs.declared.weight.Stability.{Stability}
-use Rattle.outline.specs.declared.weight.Weighing.{Weighing}
-use Rattle.outline.specs.declared.weight.Display.{Display}
-use Rattle.outline.specs.declared.daybook.Book.{Book}
-use Rattle.outline.specs.declared.stages.Setpoints.{Setpoints}
-use Rattle.outline.specs.declared.stages.Sequence.{Sequence}
-use Rattle.outline.specs.declared.stages.Totals.{Totals}
-use Rattle.outline.specs.declared.machine.State.{State}
+use Rattle.types.specs.declared.weight.Stability.{Stability}
+use Rattle.types.specs.declared.weight.Weighing.{Weighing}
+use Rattle.types.specs.declared.weight.Display.{Display}
+use Rattle.types.specs.declared.daybook.Book.{Book}
+use Rattle.types.specs.declared.stages.Setpoints.{Setpoints}
+use Rattle.types.specs.declared.stages.Sequence.{Sequence}
+use Rattle.types.specs.declared.stages.Totals.{Totals}
+use Rattle.types.specs.declared.machine.State.{State}
 
 abbrev pub withBook : State → Book → State
 withBook st x = record { book = x; stability = st .stability; weighing = st .weighing; display = st .display; setpoints = st .setpoints; sequence = st .sequence; totals = st .totals }

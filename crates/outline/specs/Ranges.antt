@@ -4,24 +4,24 @@ use mathlib.Core.Path.{_≡_}
 use mathlib.Core.Bool.{true, false}
 use lib.IntN.{pos, natAbs, _-ℤ_, _*ℤ_}
 use lib.Signed.{leZ}
-use Rattle.outline.specs.declared.settings.Range.{Range}
-use Rattle.outline.specs.declared.settings.Tracking.{Tracking}
-use Rattle.outline.specs.declared.settings.Steadiness.{Steadiness}
-use Rattle.outline.specs.declared.settings.Batching.{Batching}
-use Rattle.outline.specs.declared.settings.Settings.{Settings}
-use Rattle.outline.specs.declared.weight.Stability.{Stability}
-use Rattle.outline.specs.declared.weight.Weighing.{Weighing}
-use Rattle.outline.specs.declared.weight.Weights.{Weights}
-use Rattle.outline.specs.declared.daybook.Book.{Book}
-use Rattle.outline.specs.declared.stages.Stage.{Stage}
-use Rattle.outline.specs.declared.stages.Stage.the-variants.{Idle, StartDelay, LargeDisable, LargeFlow, MediumDisable, MediumFlow, SmallDisable, SmallFlow, JudgeDelay, JudgeWait}
-use Rattle.outline.specs.declared.stages.Judgement.the-variants as judgement
-use Rattle.outline.specs.declared.stages.SequenceError.the-variants as error
-use Rattle.outline.specs.declared.stages.Sequence.{Sequence}
-use Rattle.outline.specs.declared.stages.Batch.{Batch}
-use Rattle.outline.specs.declared.stages.Batch.the-variants as batch
-use Rattle.outline.specs.declared.stages.Totals.{Totals}
-use Rattle.outline.specs.declared.machine.State.{State}
+use Rattle.types.specs.declared.settings.Range.{Range}
+use Rattle.types.specs.declared.settings.Tracking.{Tracking}
+use Rattle.types.specs.declared.settings.Steadiness.{Steadiness}
+use Rattle.types.specs.declared.settings.Batching.{Batching}
+use Rattle.types.specs.declared.settings.Settings.{Settings}
+use Rattle.types.specs.declared.weight.Stability.{Stability}
+use Rattle.types.specs.declared.weight.Weighing.{Weighing}
+use Rattle.types.specs.declared.weight.Weights.{Weights}
+use Rattle.types.specs.declared.daybook.Book.{Book}
+use Rattle.types.specs.declared.stages.Stage.{Stage}
+use Rattle.types.specs.declared.stages.Stage.the-variants.{Idle, StartDelay, LargeDisable, LargeFlow, MediumDisable, MediumFlow, SmallDisable, SmallFlow, JudgeDelay, JudgeWait}
+use Rattle.types.specs.declared.stages.Judgement.the-variants as judgement
+use Rattle.types.specs.declared.stages.SequenceError.the-variants as error
+use Rattle.types.specs.declared.stages.Sequence.{Sequence}
+use Rattle.types.specs.declared.stages.Batch.{Batch}
+use Rattle.types.specs.declared.stages.Batch.the-variants as batch
+use Rattle.types.specs.declared.stages.Totals.{Totals}
+use Rattle.types.specs.declared.machine.State.{State}
 use Rattle.outline.specs.Limits.{rawLimit, dayTicks, bookLimit, totalLimit, batchLimit, overloadMargin}
 use Rattle.outline.specs.Weight.{fitOf}
 use Rattle.outline.specs.Setpoints.{setpointsFit}

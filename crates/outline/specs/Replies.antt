@@ -6,28 +6,28 @@ use lib.ListN.{length, drop, replicate}
 use lib.Dec.{leb}
 use lib.IntN.{ℤ, pos, natAbs}
 use lib.Signed.{ltZ}
-use Rattle.outline.specs.declared.settings.Settings.{Settings}
-use Rattle.outline.specs.declared.weight.Weights.{Weights}
-use Rattle.outline.specs.declared.weight.Display.{Display}
-use Rattle.outline.specs.declared.weight.Display.the-variants as display
-use Rattle.outline.specs.declared.stages.Setpoints.{Setpoints}
-use Rattle.outline.specs.declared.requests.Request.the-variants as request
-use Rattle.outline.specs.declared.requests.Outcome.{Outcome}
-use Rattle.outline.specs.declared.requests.Outcome.the-variants as outcome
-use Rattle.outline.specs.declared.machine.State.{State}
-use Rattle.outline.specs.declared.machine.Input.{Input}
-use Rattle.outline.specs.declared.machine.Settled.{Settled}
-use Rattle.outline.specs.declared.machine.Ticked.{Ticked}
-use Rattle.outline.specs.declared.lines.Word.{Word}
-use Rattle.outline.specs.declared.lines.Word.the-variants as word
-use Rattle.outline.specs.declared.lines.Command.{Command}
-use Rattle.outline.specs.declared.lines.Command.the-variants as command
-use Rattle.outline.specs.declared.lines.Shown.{Shown}
-use Rattle.outline.specs.declared.lines.Reply.{Reply}
-use Rattle.outline.specs.declared.lines.Reply.the-variants as reply
-use Rattle.outline.specs.declared.lines.LineAnswer.{LineAnswer}
-use Rattle.outline.specs.declared.lines.LineAnswer.the-variants as told
-use Rattle.outline.specs.declared.lines.LineTick.{LineTick}
+use Rattle.types.specs.declared.settings.Settings.{Settings}
+use Rattle.types.specs.declared.weight.Weights.{Weights}
+use Rattle.types.specs.declared.weight.Display.{Display}
+use Rattle.types.specs.declared.weight.Display.the-variants as display
+use Rattle.types.specs.declared.stages.Setpoints.{Setpoints}
+use Rattle.types.specs.declared.requests.Request.the-variants as request
+use Rattle.types.specs.declared.requests.Outcome.{Outcome}
+use Rattle.types.specs.declared.requests.Outcome.the-variants as outcome
+use Rattle.types.specs.declared.machine.State.{State}
+use Rattle.types.specs.declared.machine.Input.{Input}
+use Rattle.types.specs.declared.machine.Settled.{Settled}
+use Rattle.types.specs.declared.machine.Ticked.{Ticked}
+use Rattle.types.specs.declared.lines.Word.{Word}
+use Rattle.types.specs.declared.lines.Word.the-variants as word
+use Rattle.types.specs.declared.lines.Command.{Command}
+use Rattle.types.specs.declared.lines.Command.the-variants as command
+use Rattle.types.specs.declared.lines.Shown.{Shown}
+use Rattle.types.specs.declared.lines.Reply.{Reply}
+use Rattle.types.specs.declared.lines.Reply.the-variants as reply
+use Rattle.types.specs.declared.lines.LineAnswer.{LineAnswer}
+use Rattle.types.specs.declared.lines.LineAnswer.the-variants as told
+use Rattle.types.specs.declared.lines.LineTick.{LineTick}
 use Rattle.outline.specs.Weight.{fitOf, displayedOf}
 use Rattle.outline.specs.Tick.{settledOf, servedOf, tickOf}
 use Rattle.outline.specs.Lines.{hasPrefix, tensDigit, unitsDigit, lettersFor, setLetters, commandOf, requestOf}

@@ -2,18 +2,18 @@
 use mathlib.Core.Bool.{Bool, true, false, cond, not, _&&_}
 use mathlib.Core.List.{List, [], _∷_}
 use lib.IntN.{pos}
-use Rattle.outline.specs.declared.settings.Settings.{Settings}
-use Rattle.outline.specs.declared.weight.Weights.{Weights}
-use Rattle.outline.specs.declared.weight.Display.the-variants as display
-use Rattle.outline.specs.declared.daybook.Closed.the-variants as closed
-use Rattle.outline.specs.declared.requests.Request.{Request}
-use Rattle.outline.specs.declared.requests.Request.the-variants as request
-use Rattle.outline.specs.declared.requests.Refusal.{Refusal}
-use Rattle.outline.specs.declared.requests.Refusal.the-variants as refusal
-use Rattle.outline.specs.declared.requests.Outcome.{Outcome}
-use Rattle.outline.specs.declared.requests.Outcome.the-variants as outcome
-use Rattle.outline.specs.declared.machine.State.{State}
-use Rattle.outline.specs.declared.machine.Settled.{Settled}
+use Rattle.types.specs.declared.settings.Settings.{Settings}
+use Rattle.types.specs.declared.weight.Weights.{Weights}
+use Rattle.types.specs.declared.weight.Display.the-variants as display
+use Rattle.types.specs.declared.daybook.Closed.the-variants as closed
+use Rattle.types.specs.declared.requests.Request.{Request}
+use Rattle.types.specs.declared.requests.Request.the-variants as request
+use Rattle.types.specs.declared.requests.Refusal.{Refusal}
+use Rattle.types.specs.declared.requests.Refusal.the-variants as refusal
+use Rattle.types.specs.declared.requests.Outcome.{Outcome}
+use Rattle.types.specs.declared.requests.Outcome.the-variants as outcome
+use Rattle.types.specs.declared.machine.State.{State}
+use Rattle.types.specs.declared.machine.Settled.{Settled}
 use Rattle.outline.specs.DayBook.{closedOf}
 use Rattle.outline.specs.Zero.{inZeroRange, zeroedOf, inTareRange, taredOf}
 use Rattle.outline.specs.Setpoints.{setpointsFit}

@@ -6,15 +6,15 @@ use mathlib.Core.Bool.{Bool, true, false}
 use mathlib.Core.List.{List, [], _∷_, _++_, foldl}
 use lib.ListN.{replicate, set}
 use lib.IntN.{ℤ, pos, negsuc}
-use Rattle.outline.specs.declared.settings.Settings.{Settings}
-use Rattle.outline.specs.declared.analog.Analog.the-variants as analog
-use Rattle.outline.specs.declared.weight.Raw.the-variants.{Bad, Tenths}
-use Rattle.outline.specs.declared.daybook.Book.{Book}
-use Rattle.outline.specs.declared.requests.Request.{Request}
-use Rattle.outline.specs.declared.requests.Request.the-variants as request
-use Rattle.outline.specs.declared.stages.Setpoints.{Setpoints}
-use Rattle.outline.specs.declared.machine.State.{State}
-use Rattle.outline.specs.declared.machine.Answer.{Answer}
+use Rattle.types.specs.declared.settings.Settings.{Settings}
+use Rattle.types.specs.declared.analog.Analog.the-variants as analog
+use Rattle.types.specs.declared.weight.Raw.the-variants.{Bad, Tenths}
+use Rattle.types.specs.declared.daybook.Book.{Book}
+use Rattle.types.specs.declared.requests.Request.{Request}
+use Rattle.types.specs.declared.requests.Request.the-variants as request
+use Rattle.types.specs.declared.stages.Setpoints.{Setpoints}
+use Rattle.types.specs.declared.machine.State.{State}
+use Rattle.types.specs.declared.machine.Answer.{Answer}
 use Rattle.outline.specs.Limits.{blockLimit, dayTicks}
 use Rattle.outline.specs.Settings.{settingsOf}
 use Rattle.outline.specs.Weight.{rawOf}

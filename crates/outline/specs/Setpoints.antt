@@ -3,10 +3,10 @@ use mathlib.Core.Bool.{Bool, true, false, _&&_, _||_}
 use lib.Dec.{leb, ltb, eqb}
 use lib.IntN.{ℤ, pos}
 use lib.Signed.{leZ, ltZ}
-use Rattle.outline.specs.declared.settings.Mode.{Mode}
-use Rattle.outline.specs.declared.settings.Mode.the-variants as mode
-use Rattle.outline.specs.declared.stages.Setpoints.{Setpoints}
-use Rattle.outline.specs.declared.weight.Weights.{Weights}
+use Rattle.types.specs.declared.settings.Mode.{Mode}
+use Rattle.types.specs.declared.settings.Mode.the-variants as mode
+use Rattle.types.specs.declared.stages.Setpoints.{Setpoints}
+use Rattle.types.specs.declared.weight.Weights.{Weights}
 use Rattle.outline.specs.Limits.{setpointLimit}
 use Rattle.outline.specs.Weight.{fitOf}
 

@@ -4,25 +4,25 @@ use mathlib.Core.Bool.{Bool, true, false, cond, not, _&&_}
 use lib.Dec.{leb, ltb, eqb}
 use lib.IntN.{ℤ, pos, negℤ, _-ℤ_}
 use lib.Signed.{leZ, ltZ}
-use Rattle.outline.specs.declared.settings.Mode.{Mode}
-use Rattle.outline.specs.declared.settings.Mode.the-variants as mode
-use Rattle.outline.specs.declared.settings.Batching.{Batching}
-use Rattle.outline.specs.declared.weight.Weights.{Weights}
-use Rattle.outline.specs.declared.stages.Setpoints.{Setpoints}
-use Rattle.outline.specs.declared.stages.Stage.{Stage}
-use Rattle.outline.specs.declared.stages.Stage.the-variants.{Idle, StartDelay, LargeDisable, LargeFlow, MediumDisable, MediumFlow, SmallDisable, SmallFlow, JudgeDelay, JudgeWait}
-use Rattle.outline.specs.declared.stages.Judgement.{Judgement}
-use Rattle.outline.specs.declared.stages.Judgement.the-variants as judgement
-use Rattle.outline.specs.declared.stages.SequenceError.{SequenceError}
-use Rattle.outline.specs.declared.stages.SequenceError.the-variants as error
-use Rattle.outline.specs.declared.stages.Sequence.{Sequence}
-use Rattle.outline.specs.declared.stages.Gates.{Gates}
-use Rattle.outline.specs.declared.stages.Facts.{Facts}
-use Rattle.outline.specs.declared.stages.Timing.{Timing}
-use Rattle.outline.specs.declared.stages.Timing.the-variants as timing
-use Rattle.outline.specs.declared.stages.Move.{Move}
-use Rattle.outline.specs.declared.stages.Move.the-variants.{To, Fail, Finish}
-use Rattle.outline.specs.declared.stages.Advanced.{Advanced}
+use Rattle.types.specs.declared.settings.Mode.{Mode}
+use Rattle.types.specs.declared.settings.Mode.the-variants as mode
+use Rattle.types.specs.declared.settings.Batching.{Batching}
+use Rattle.types.specs.declared.weight.Weights.{Weights}
+use Rattle.types.specs.declared.stages.Setpoints.{Setpoints}
+use Rattle.types.specs.declared.stages.Stage.{Stage}
+use Rattle.types.specs.declared.stages.Stage.the-variants.{Idle, StartDelay, LargeDisable, LargeFlow, MediumDisable, MediumFlow, SmallDisable, SmallFlow, JudgeDelay, JudgeWait}
+use Rattle.types.specs.declared.stages.Judgement.{Judgement}
+use Rattle.types.specs.declared.stages.Judgement.the-variants as judgement
+use Rattle.types.specs.declared.stages.SequenceError.{SequenceError}
+use Rattle.types.specs.declared.stages.SequenceError.the-variants as error
+use Rattle.types.specs.declared.stages.Sequence.{Sequence}
+use Rattle.types.specs.declared.stages.Gates.{Gates}
+use Rattle.types.specs.declared.stages.Facts.{Facts}
+use Rattle.types.specs.declared.stages.Timing.{Timing}
+use Rattle.types.specs.declared.stages.Timing.the-variants as timing
+use Rattle.types.specs.declared.stages.Move.{Move}
+use Rattle.types.specs.declared.stages.Move.the-variants.{To, Fail, Finish}
+use Rattle.types.specs.declared.stages.Advanced.{Advanced}
 use Rattle.outline.specs.Setpoints.{noLargeFlow}
 use Rattle.outline.specs.Weight.{fitOf}
 

@@ -6,18 +6,18 @@ use mathlib.Core.Bool.{Bool, true, false}
 use mathlib.Core.List.{List, [], _∷_}
 use lib.ListN.{length, take, drop}
 use lib.IntN.{ℤ, natAbs, _+ℤ_, _-ℤ_}
-use Rattle.outline.specs.declared.settings.Settings.{Settings}
-use Rattle.outline.specs.declared.daybook.Closed.the-variants as closed
-use Rattle.outline.specs.declared.requests.Request.{Request}
-use Rattle.outline.specs.declared.requests.Request.the-variants as request
-use Rattle.outline.specs.declared.requests.Outcome.the-variants as outcome
-use Rattle.outline.specs.declared.stages.Setpoints.{Setpoints}
-use Rattle.outline.specs.declared.stages.SequenceError.the-variants as error
-use Rattle.outline.specs.declared.machine.State.{State}
-use Rattle.outline.specs.declared.machine.Input.{Input}
-use Rattle.outline.specs.declared.lines.Command.the-variants as command
-use Rattle.outline.specs.declared.lines.LineAnswer.the-variants as told
-use Rattle.outline.specs.declared.lines.Word.the-variants as word
+use Rattle.types.specs.declared.settings.Settings.{Settings}
+use Rattle.types.specs.declared.daybook.Closed.the-variants as closed
+use Rattle.types.specs.declared.requests.Request.{Request}
+use Rattle.types.specs.declared.requests.Request.the-variants as request
+use Rattle.types.specs.declared.requests.Outcome.the-variants as outcome
+use Rattle.types.specs.declared.stages.Setpoints.{Setpoints}
+use Rattle.types.specs.declared.stages.SequenceError.the-variants as error
+use Rattle.types.specs.declared.machine.State.{State}
+use Rattle.types.specs.declared.machine.Input.{Input}
+use Rattle.types.specs.declared.lines.Command.the-variants as command
+use Rattle.types.specs.declared.lines.LineAnswer.the-variants as told
+use Rattle.types.specs.declared.lines.Word.the-variants as word
 use Rattle.outline.specs.Limits.{blockLimit, totalLimit, batchLimit}
 use Rattle.outline.specs.Stages.{shut}
 use Rattle.outline.specs.Requests.{doneOf}

@@ -4,22 +4,22 @@ use mathlib.Core.List.{List, [], _∷_, foldl}
 use lib.Dec.{leb}
 use lib.ListN.{length}
 use lib.IntN.{ℤ, pos}
-use Rattle.outline.specs.declared.settings.Settings.{Settings}
-use Rattle.outline.specs.declared.settings.Opening.{Opening}
-use Rattle.outline.specs.declared.settings.Opening.the-variants as opening
-use Rattle.outline.specs.declared.weight.Raw.{Raw}
-use Rattle.outline.specs.declared.weight.Weights.{Weights}
-use Rattle.outline.specs.declared.weight.Display.the-variants as display
-use Rattle.outline.specs.declared.requests.Request.the-variants as request
-use Rattle.outline.specs.declared.stages.Advanced.{Advanced}
-use Rattle.outline.specs.declared.machine.State.{State}
-use Rattle.outline.specs.declared.machine.Input.{Input}
-use Rattle.outline.specs.declared.machine.Settled.{Settled}
-use Rattle.outline.specs.declared.machine.Reading.{Reading}
-use Rattle.outline.specs.declared.machine.Answer.{Answer}
-use Rattle.outline.specs.declared.machine.Ticked.{Ticked}
-use Rattle.outline.specs.declared.machine.Blocked.{Blocked}
-use Rattle.outline.specs.declared.machine.BlockAnswer.the-variants as block
+use Rattle.types.specs.declared.settings.Settings.{Settings}
+use Rattle.types.specs.declared.settings.Opening.{Opening}
+use Rattle.types.specs.declared.settings.Opening.the-variants as opening
+use Rattle.types.specs.declared.weight.Raw.{Raw}
+use Rattle.types.specs.declared.weight.Weights.{Weights}
+use Rattle.types.specs.declared.weight.Display.the-variants as display
+use Rattle.types.specs.declared.requests.Request.the-variants as request
+use Rattle.types.specs.declared.stages.Advanced.{Advanced}
+use Rattle.types.specs.declared.machine.State.{State}
+use Rattle.types.specs.declared.machine.Input.{Input}
+use Rattle.types.specs.declared.machine.Settled.{Settled}
+use Rattle.types.specs.declared.machine.Reading.{Reading}
+use Rattle.types.specs.declared.machine.Answer.{Answer}
+use Rattle.types.specs.declared.machine.Ticked.{Ticked}
+use Rattle.types.specs.declared.machine.Blocked.{Blocked}
+use Rattle.types.specs.declared.machine.BlockAnswer.the-variants as block
 use Rattle.outline.specs.Limits.{blockLimit}
 use Rattle.outline.specs.Weight.{rawOf, weighOf, steadiedOf, fitOf, displayedOf}
 use Rattle.outline.specs.DayBook.{openBook, bookOf}

@@ -4,11 +4,11 @@ use mathlib.Core.Bool.{Bool, true, false, cond, _&&_}
 use lib.Dec.{leb}
 use lib.IntN.{ℤ, natAbs}
 use lib.Signed.{nonNeg}
-use Rattle.outline.specs.declared.stages.SequenceError.the-variants as error
-use Rattle.outline.specs.declared.stages.Sequence.{Sequence}
-use Rattle.outline.specs.declared.stages.Batch.{Batch}
-use Rattle.outline.specs.declared.stages.Batch.the-variants as batch
-use Rattle.outline.specs.declared.stages.Totals.{Totals}
+use Rattle.types.specs.declared.stages.SequenceError.the-variants as error
+use Rattle.types.specs.declared.stages.Sequence.{Sequence}
+use Rattle.types.specs.declared.stages.Batch.{Batch}
+use Rattle.types.specs.declared.stages.Batch.the-variants as batch
+use Rattle.types.specs.declared.stages.Totals.{Totals}
 use Rattle.outline.specs.Limits.{totalLimit, batchLimit}
 
 -- "Opening: .. totals .. 0, .. nothing to take back"; "total clear makes total and count 0"; "after an undo or clear there is none

@@ -6,17 +6,17 @@ use lib.Dec.{ltb, eqb}
 use lib.IntN.{ℤ, pos, natAbs, _-ℤ_, _*ℤ_}
 use Rattle.whole.specs.Nearest.{nearestOf}
 use Rattle.whole.specs.Limit.{limitTo}
-use Rattle.outline.specs.declared.settings.Calibration.{Calibration}
-use Rattle.outline.specs.declared.settings.Range.{Range}
-use Rattle.outline.specs.declared.settings.Steadiness.{Steadiness}
-use Rattle.outline.specs.declared.settings.Settings.{Settings}
-use Rattle.outline.specs.declared.weight.Raw.{Raw}
-use Rattle.outline.specs.declared.weight.Raw.the-variants.{Bad, Tenths}
-use Rattle.outline.specs.declared.weight.Stability.{Stability}
-use Rattle.outline.specs.declared.weight.Weighing.{Weighing}
-use Rattle.outline.specs.declared.weight.Weights.{Weights}
-use Rattle.outline.specs.declared.weight.Display.{Display}
-use Rattle.outline.specs.declared.weight.Display.the-variants as display
+use Rattle.types.specs.declared.settings.Calibration.{Calibration}
+use Rattle.types.specs.declared.settings.Range.{Range}
+use Rattle.types.specs.declared.settings.Steadiness.{Steadiness}
+use Rattle.types.specs.declared.settings.Settings.{Settings}
+use Rattle.types.specs.declared.weight.Raw.{Raw}
+use Rattle.types.specs.declared.weight.Raw.the-variants.{Bad, Tenths}
+use Rattle.types.specs.declared.weight.Stability.{Stability}
+use Rattle.types.specs.declared.weight.Weighing.{Weighing}
+use Rattle.types.specs.declared.weight.Weights.{Weights}
+use Rattle.types.specs.declared.weight.Display.{Display}
+use Rattle.types.specs.declared.weight.Display.the-variants as display
 use Rattle.outline.specs.Limits.{countLimit, rawLimit, displayLimit, overloadMargin}
 use Rattle.outline.specs.Settings.{within}
 

@@ -8,15 +8,15 @@ use mathlib.Core.Bool.{Bool, true, false}
 use mathlib.Core.List.{List, [], _∷_, _++_}
 use lib.ListN.{replicate, set}
 use lib.IntN.{ℤ, pos, negsuc}
-use Rattle.outline.specs.declared.settings.Settings.{Settings}
-use Rattle.outline.specs.declared.requests.Request.{Request}
-use Rattle.outline.specs.declared.requests.Request.the-variants as request
-use Rattle.outline.specs.declared.stages.Judgement.{Judgement}
-use Rattle.outline.specs.declared.stages.Judgement.the-variants as judgement
-use Rattle.outline.specs.declared.machine.State.{State}
-use Rattle.outline.specs.declared.machine.Answer.{Answer}
-use Rattle.outline.specs.declared.lines.Word.the-variants as word
-use Rattle.outline.specs.declared.lines.LineTick.{LineTick}
+use Rattle.types.specs.declared.settings.Settings.{Settings}
+use Rattle.types.specs.declared.requests.Request.{Request}
+use Rattle.types.specs.declared.requests.Request.the-variants as request
+use Rattle.types.specs.declared.stages.Judgement.{Judgement}
+use Rattle.types.specs.declared.stages.Judgement.the-variants as judgement
+use Rattle.types.specs.declared.machine.State.{State}
+use Rattle.types.specs.declared.machine.Answer.{Answer}
+use Rattle.types.specs.declared.lines.Word.the-variants as word
+use Rattle.types.specs.declared.lines.LineTick.{LineTick}
 use Rattle.outline.specs.Settings.{settingsOf}
 use Rattle.outline.specs.Tick.{openState}
 use Rattle.outline.specs.Lines.{lettersFor, setLetters}

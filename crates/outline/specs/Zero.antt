@@ -3,11 +3,11 @@ use Prim.Native.Nat.{ℕ, suc, _*_}
 use mathlib.Core.Bool.{Bool, cond, not, _&&_}
 use lib.Dec.{leb, ltb}
 use lib.IntN.{ℤ, pos, natAbs, _+ℤ_}
-use Rattle.outline.specs.declared.settings.Range.{Range}
-use Rattle.outline.specs.declared.settings.Tracking.{Tracking}
-use Rattle.outline.specs.declared.settings.Settings.{Settings}
-use Rattle.outline.specs.declared.weight.Weighing.{Weighing}
-use Rattle.outline.specs.declared.weight.Weights.{Weights}
+use Rattle.types.specs.declared.settings.Range.{Range}
+use Rattle.types.specs.declared.settings.Tracking.{Tracking}
+use Rattle.types.specs.declared.settings.Settings.{Settings}
+use Rattle.types.specs.declared.weight.Weighing.{Weighing}
+use Rattle.types.specs.declared.weight.Weights.{Weights}
 use Rattle.outline.specs.Settings.{fromTo, within}
 use Rattle.outline.specs.Weight.{fitOf}
 

@@ -1,4 +1,4 @@
-// The paper: the types of the machine. The definitions over them stand in specs/, a file for each section of the outline.
+// The paper: the definitions over the types of the machine stand in specs/, a file for each section of the outline.
 // Nothing here does a tick's work; the crates above do, and promise that they do what the definitions say.
 ghost use Rattle.outline.specs.Figures.{Starred, Runs, Table};
 ghost use Rattle.outline.specs.Worked.{Batches, Letters, Lines};
@@ -7,16 +7,6 @@ ghost use Rattle.outline.specs.Rules.{Weighed, Refused, Staged, Booked};
 ghost use Rattle.outline.specs.Owed.{RawLaw, SetpointLaw, TimedLaw};
 ghost use Rattle.outline.specs.AnalogOwed.{ScaleLaw, AnalogLaws};
 ghost use Rattle.outline.specs.StaysTrue.{Balance, SumsOfHistory, NothingElse, ZeroInForce, TotalOfBatches, GatesShut, InRange, Refusals, ReadBack, Ticket, BlocksAreRuns, LinesAreRuns};
-
-pub mod analog;
-pub mod daybook;
-pub mod lines;
-pub mod log;
-pub mod machine;
-pub mod requests;
-pub mod settings;
-pub mod stages;
-pub mod weight;
 
 // The figures of the outline and the laws that the definitions owe. It does nothing: it stands here so that the check's list names
 // them, and misses them if a proof goes.

@@ -1,11 +1,11 @@
 // The state with one part made anew; those parts that more than one step makes.
 ghost use mathlib.Core.Path.{_≡_};
 ghost use Rattle.outline.specs.Parts.{withBook, withWeighing, withSequence, withTotals};
-use outline::daybook::Book;
-use outline::machine::State;
-use outline::stages::Sequence;
-use outline::stages::Totals;
-use outline::weight::Weighing;
+use types::daybook::Book;
+use types::machine::State;
+use types::stages::Sequence;
+use types::stages::Totals;
+use types::weight::Weighing;
 
 pub fn with_book(mut st: State, x: Book) -> State
     ensures { λ r. ⌜ r ≡ withBook st x ⌝ }

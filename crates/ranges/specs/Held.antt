@@ -1,7 +1,7 @@
 -- Every number given fits 32 bits: what the type of the numbers says, for the proofs of the checks and of what is made of them.
 use mir.Syntax.{w32}
 use mir.Val.{SFits}
-use Rattle.outline.specs.declared.settings.Given.{Given}
+use Rattle.types.specs.declared.settings.Given.{Given}
 
 pub record Held (g : Given) : Type 0 where
   pub zero : SFits w32 (g .zero)

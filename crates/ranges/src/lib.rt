@@ -2,7 +2,7 @@
 // Tests are joined by `&`, which asks them all: each can be asked of any number, and the check has one way through.
 ghost use mathlib.Core.Path.{_≡_};
 ghost use Rattle.outline.specs.Settings.{fromTo, within, countsFit, capacityFits, divisionFits, zeroRangeFits, trackingFits, stabilityFits, modeFits, delaysFit, flowFits, addressFits, analogFits, settingsFit};
-use outline::settings::Given;
+use types::settings::Given;
 
 const COUNT_LIMIT: u32 = 2_000_000;
 

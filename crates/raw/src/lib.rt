@@ -1,8 +1,8 @@
 // From count to raw, in tenths of a division.
 ghost use mathlib.Core.Path.{_≡_};
 ghost use Rattle.outline.specs.Weight.{goodCount, tenthsOf, rawOf};
-use outline::settings::Calibration;
-use outline::weight::Raw;
+use types::settings::Calibration;
+use types::weight::Raw;
 
 // A count beyond it makes a bad tick.
 const COUNT_LIMIT: u64 = 2_000_000;

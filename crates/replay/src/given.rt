@@ -1,8 +1,8 @@
 // The settings line: 22 whole numbers parted by single spaces, in the order of the outline's table.
 use line::byte_at;
 use numerals::number_at;
-use outline::log::LogNumber;
-use outline::settings::Given;
+use types::log::LogNumber;
+use types::settings::Given;
 
 // What the first line reads as.
 pub(crate) enum GivenLine {

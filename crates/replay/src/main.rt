@@ -11,19 +11,20 @@ use logticks::log_tick;
 use numerals::number_at;
 use opening::open;
 use opening::open_state;
-use outline::lines::LineTick;
-use outline::log::LogNumber;
-use outline::log::LogTick;
-use outline::machine::State;
-use outline::settings::Given;
-use outline::settings::Opening;
-use outline::settings::Settings;
 use pieces::front;
 use pieces::line_end;
 use pieces::move_down;
 use pieces::whole_lines;
+use types::lines::LineTick;
+use types::log::LogNumber;
+use types::log::LogTick;
+use types::machine::State;
+use types::settings::Given;
+use types::settings::Opening;
+use types::settings::Settings;
 
 mod given;
+mod number;
 mod shown;
 mod text;
 

@@ -1,34 +1,39 @@
 // A tick's line: its outputs, then the state after it.
+use crate::number::error_number;
+use crate::number::stage_number;
+use crate::number::told_number;
+use crate::text::flag;
 use crate::text::put;
 use crate::text::put_bits;
 use crate::text::put_byte;
 use crate::text::put_count;
-use crate::text::put_flag;
 use crate::text::put_hex;
-use crate::text::put_narrow;
-use crate::text::put_signed;
 use crate::text::put_two;
-use numbers::error_number;
-use numbers::stage_number;
-use numbers::told_number;
-use outline::analog::Analog;
-use outline::daybook::Book;
-use outline::lines::LineTick;
-use outline::machine::Answer;
-use outline::machine::Reading;
-use outline::machine::State;
-use outline::stages::Gates;
-use outline::stages::Judgement;
-use outline::stages::Setpoints;
-use outline::stages::Totals;
-use outline::weight::Weighing;
+use crate::text::put_values;
+use crate::text::small;
+use crate::text::wide;
+use types::analog::Analog;
+use types::daybook::Book;
+use types::lines::LineTick;
+use types::machine::Answer;
+use types::machine::Reading;
+use types::machine::State;
+use types::stages::Gates;
+use types::stages::Judgement;
+use types::stages::SequenceError;
+use types::stages::Setpoints;
+use types::stages::Totals;
+use types::weight::Weighing;
 
 fn put_reading(out: &mut [u8], at: usize, x: Reading) -> usize {
-    let at = put_flag(out, at, b" good=", x.good);
-    let at = put_narrow(out, at, b" gross=", x.gross);
-    let at = put_narrow(out, at, b" net=", x.net);
-    let at = put_flag(out, at, b" overload=", x.overload);
-    put_flag(out, at, b" stable=", x.stable)
+    let values = [
+        flag(x.good),
+        wide(x.gross),
+        wide(x.net),
+        flag(x.overload),
+        flag(x.stable),
+    ];
+    put_values(out, at, b" good= gross= net= overload= stable=", &values)
 }
 
 fn put_gate(out: &mut [u8], at: usize, open: bool, letter: u8) -> usize {
@@ -71,63 +76,63 @@ fn put_analog(out: &mut [u8], at: usize, a: Analog) -> usize {
     }
 }
 
-fn put_sequence(out: &mut [u8], at: usize, a: Answer) -> usize {
-    let stage = a.stage;
-    let gates = a.gates;
-    let judgement = a.judgement;
-    let error = a.error;
-    let at = put_two(out, at, b" stage=", stage_number(stage));
-    let at = put_gates(out, at, gates);
-    let at = put_judgement(out, at, judgement);
-    put_count(out, at, b" error=", error_number(error) as u64)
+fn put_signals(out: &mut [u8], at: usize, error: SequenceError, near: bool, full: bool) -> usize {
+    let values = [small(error_number(error) as u64), flag(near), flag(full)];
+    put_values(out, at, b" error= nearzero= full=", &values)
 }
 
 fn put_outputs(out: &mut [u8], at: usize, a: Answer) -> usize {
     let reading = a.reading;
+    let stage = a.stage;
+    let gates = a.gates;
+    let judgement = a.judgement;
+    let error = a.error;
     let analog = a.analog;
     let at = put_reading(out, at, reading);
-    let at = put_sequence(out, at, a);
-    let at = put_flag(out, at, b" nearzero=", a.near);
-    let at = put_flag(out, at, b" full=", a.full);
+    let at = put_two(out, at, b" stage=", stage_number(stage));
+    let at = put_gates(out, at, gates);
+    let at = put_judgement(out, at, judgement);
+    let at = put_signals(out, at, error, a.near, a.full);
     put_analog(out, at, analog)
 }
 
 fn put_weighing(out: &mut [u8], at: usize, w: Weighing) -> usize {
-    let at = put_narrow(out, at, b" zero=", w.zero);
-    let at = put_narrow(out, at, b" tracked=", w.tracked);
-    put_narrow(out, at, b" tare=", w.tare)
-}
-
-fn put_sums(out: &mut [u8], at: usize, b: Book) -> usize {
-    let at = put_signed(out, at, b" refilled=", b.refilled);
-    let at = put_signed(out, at, b" used=", b.used);
-    put_signed(out, at, b" unbooked=", b.unbooked)
+    let values = [wide(w.zero), wide(w.tracked), wide(w.tare)];
+    put_values(out, at, b" zero= tracked= tare=", &values)
 }
 
 fn put_book(out: &mut [u8], at: usize, b: Book) -> usize {
-    let at = put_narrow(out, at, b" opening=", b.opening);
-    let at = put_sums(out, at, b);
-    put_narrow(out, at, b" last=", b.last)
+    let values = [
+        wide(b.opening),
+        b.refilled,
+        b.used,
+        b.unbooked,
+        wide(b.last),
+    ];
+    put_values(
+        out,
+        at,
+        b" opening= refilled= used= unbooked= last=",
+        &values,
+    )
 }
 
 fn put_totals(out: &mut [u8], at: usize, t: Totals) -> usize {
-    let at = put_count(out, at, b" total=", t.total);
-    put_count(out, at, b" batches=", t.count as u64)
-}
-
-// Over, under and near.
-fn put_limits(out: &mut [u8], at: usize, p: Setpoints) -> usize {
-    let at = put_count(out, at, b",", p.over as u64);
-    let at = put_count(out, at, b",", p.under as u64);
-    put_count(out, at, b",", p.near as u64)
+    let values = [small(t.total), small(t.count as u64)];
+    put_values(out, at, b" total= batches=", &values)
 }
 
 fn put_setpoints(out: &mut [u8], at: usize, p: Setpoints) -> usize {
-    let at = put_count(out, at, b" setpoints=", p.target as u64);
-    let at = put_count(out, at, b",", p.fall as u64);
-    let at = put_count(out, at, b",", p.preliminary as u64);
-    let at = put_count(out, at, b",", p.optional as u64);
-    put_limits(out, at, p)
+    let values = [
+        small(p.target as u64),
+        small(p.fall as u64),
+        small(p.preliminary as u64),
+        small(p.optional as u64),
+        small(p.over as u64),
+        small(p.under as u64),
+        small(p.near as u64),
+    ];
+    put_values(out, at, b" setpoints=,,,,,,", &values)
 }
 
 fn put_state(out: &mut [u8], at: usize, st: State) -> usize {

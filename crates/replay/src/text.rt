@@ -25,12 +25,6 @@ pub(crate) fn put_count(out: &mut [u8], at: usize, key: &[u8], n: u64) -> usize 
     put(out, behind, &digits[..k])
 }
 
-pub(crate) fn put_signed(out: &mut [u8], at: usize, key: &[u8], n: i64) -> usize {
-    let behind = put(out, at, key);
-    let digits = put_sign(out, behind, n);
-    put_count(out, digits, b"", whole::magnitude(n))
-}
-
 fn put_sign(out: &mut [u8], at: usize, n: i64) -> usize {
     if n < 0 {
         return put_byte(out, at, 45);
@@ -38,20 +32,65 @@ fn put_sign(out: &mut [u8], at: usize, n: i64) -> usize {
     at
 }
 
+fn put_signed(out: &mut [u8], at: usize, n: i64) -> usize {
+    let digits = put_sign(out, at, n);
+    put_count(out, digits, b"", whole::magnitude(n))
+}
+
 pub(crate) fn wide(n: i32) -> i64 {
     n as i64
 }
 
-pub(crate) fn put_narrow(out: &mut [u8], at: usize, key: &[u8], n: i32) -> usize {
-    put_signed(out, at, key, wide(n))
+// A number that no state has above what an i64 holds.
+pub(crate) fn small(n: u64) -> i64 {
+    if n < 9_223_372_036_854_775_807 {
+        return n as i64;
+    }
+    9_223_372_036_854_775_807
 }
 
-pub(crate) fn put_flag(out: &mut [u8], at: usize, key: &[u8], flag: bool) -> usize {
-    let behind = put(out, at, key);
-    if flag {
-        return put_byte(out, behind, 49);
+pub(crate) fn flag(set: bool) -> i64 {
+    if set { 1 } else { 0 }
+}
+
+// `=` and `,` end a key.
+fn ends_key(byte: u8) -> bool {
+    byte == 61 || byte == 44
+}
+
+fn put_part(out: &mut [u8], at: usize, byte: u8, value: i64) -> usize {
+    let behind = put_byte(out, at, byte);
+    if ends_key(byte) {
+        return put_signed(out, behind, value);
     }
-    put_byte(out, behind, 48)
+    behind
+}
+
+fn value_at(values: &[i64], i: usize) -> i64 {
+    if i < values.len() { values[i] } else { 0 }
+}
+
+fn value_behind(i: usize, byte: u8) -> usize {
+    if ends_key(byte) {
+        if i < 1_000 {
+            return i + 1;
+        }
+    }
+    i
+}
+
+// Keys and their values: behind each end of a key the next value.
+pub(crate) fn put_values(out: &mut [u8], at: usize, keys: &[u8], values: &[i64]) -> usize {
+    let mut n = at;
+    let mut value: usize = 0;
+    let mut i: usize = 0;
+    while i < keys.len() {
+        let byte = keys[i];
+        n = put_part(out, n, byte, value_at(values, value));
+        value = value_behind(value, byte);
+        i += 1;
+    }
+    n
 }
 
 // Two digits.

@@ -9,8 +9,8 @@ use lib.Dec.{eqb, leb·zero}
 use lib.ListN.{length, drop}
 use lib.Seq.{sets, sets-eq}
 use borrow.Author.Tests.{le-leb, lt-leb, le-ltb, lt-ltb, eq-eqb, ne-eqb}
-use Rattle.outline.specs.declared.lines.Reply.{Reply}
-use Rattle.outline.specs.declared.lines.Reply.the-variants.{Silent, Letters, Weight, Total, Points, Refused}
+use Rattle.types.specs.declared.lines.Reply.{Reply}
+use Rattle.types.specs.declared.lines.Reply.the-variants.{Silent, Letters, Weight, Total, Points, Refused}
 use Rattle.outline.specs.Lines.{prefixLength, tensDigit, unitsDigit}
 use Rattle.outline.specs.Replies.{prefixText, framed, replyText, writtenOf}
 use Rattle.replies.specs.declared.Wrote.the-variants.{Bytes, Short}

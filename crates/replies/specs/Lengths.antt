@@ -6,9 +6,9 @@ use mathlib.Core.Path.{_≡_, refl, _∙_}
 use mathlib.Core.Bool.{Bool, true, false, cond}
 use mathlib.Core.List.{[], _∷_}
 use lib.ListN.{length, replicate, length-append}
-use Rattle.outline.specs.declared.lines.Shown.{Shown}
-use Rattle.outline.specs.declared.lines.Reply.{Reply}
-use Rattle.outline.specs.declared.lines.Reply.the-variants.{Silent, Letters, Weight, Total, Points, Refused}
+use Rattle.types.specs.declared.lines.Shown.{Shown}
+use Rattle.types.specs.declared.lines.Reply.{Reply}
+use Rattle.types.specs.declared.lines.Reply.the-variants.{Silent, Letters, Weight, Total, Points, Refused}
 use Rattle.outline.specs.Lines.{hasPrefix, prefixLength, tensDigit, unitsDigit}
 use Rattle.outline.specs.Replies.{digitsOf, amountText, weightText, totalText, pointsText, refusedText, prefixText, framed, replyText}
 use Rattle.replies.specs.Texts.{textOf, textLength}

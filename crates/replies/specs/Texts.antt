@@ -1,8 +1,8 @@
 -- The text of each kind of reply, between prefix and CR LF, and how many bytes it has. No kind but the silent one has none.
 use Prim.Native.Nat.{ℕ}
 use mathlib.Core.List.{List, []}
-use Rattle.outline.specs.declared.lines.Reply.{Reply}
-use Rattle.outline.specs.declared.lines.Reply.the-variants.{Silent, Letters, Weight, Total, Points, Refused}
+use Rattle.types.specs.declared.lines.Reply.{Reply}
+use Rattle.types.specs.declared.lines.Reply.the-variants.{Silent, Letters, Weight, Total, Points, Refused}
 use Rattle.outline.specs.Replies.{lettersText, weightText, totalText, pointsText, refusedText}
 
 abbrev pub textOf : Reply → List ℕ

@@ -11,8 +11,8 @@ use crate::put::put_byte;
 use crate::put::put_pair;
 use crate::text::put_text;
 use crate::text::text_length;
-use outline::lines::Reply;
 use prefix::prefix_length;
+use types::lines::Reply;
 
 mod put;
 mod text;

@@ -11,9 +11,9 @@ use crate::put::put_digits;
 use crate::put::put_letters;
 use crate::put::put_pair;
 use crate::put::put_spaces;
-use outline::lines::Reply;
-use outline::lines::Shown;
-use outline::stages::Setpoints;
+use types::lines::Reply;
+use types::lines::Shown;
+use types::stages::Setpoints;
 
 const COMMA: u8 = 44;
 

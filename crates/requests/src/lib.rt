@@ -9,18 +9,6 @@ ghost use Rattle.outline.specs.Setpoints.{setpointsFit};
 ghost use Rattle.outline.specs.Stages.{startSequence, stopSequence};
 ghost use Rattle.outline.specs.Totals.{clearTotals, takenBack};
 ghost use Rattle.outline.specs.Zero.{inZeroRange, zeroedOf, inTareRange, taredOf};
-use outline::daybook::Closed;
-use outline::machine::Settled;
-use outline::machine::State;
-use outline::requests::Outcome;
-use outline::requests::Refusal;
-use outline::requests::Request;
-use outline::settings::Mode;
-use outline::settings::Range;
-use outline::settings::Settings;
-use outline::stages::Setpoints;
-use outline::weight::Display;
-use outline::weight::Weights;
 use parts::with_book;
 use parts::with_sequence;
 use parts::with_totals;
@@ -28,6 +16,18 @@ use parts::with_weighing;
 use rulings::fit_ruling;
 use rulings::idle_ruling;
 use rulings::still_ruling;
+use types::daybook::Closed;
+use types::machine::Settled;
+use types::machine::State;
+use types::requests::Outcome;
+use types::requests::Refusal;
+use types::requests::Request;
+use types::settings::Mode;
+use types::settings::Range;
+use types::settings::Settings;
+use types::stages::Setpoints;
+use types::weight::Display;
+use types::weight::Weights;
 
 // ---- rulings of a single row
 fn set_ruling(kept: bool) -> Outcome

@@ -3,10 +3,10 @@ ghost use mathlib.Core.Path.{_≡_};
 ghost use mathlib.Core.Bool.{cond};
 ghost use mathlib.Core.List.{[], _∷_};
 ghost use Rattle.outline.specs.Requests.{idleNow, row1, row2, row3, row4, row5, firstOf};
-use outline::machine::State;
-use outline::requests::Outcome;
-use outline::requests::Refusal;
-use outline::weight::Weights;
+use types::machine::State;
+use types::requests::Outcome;
+use types::requests::Refusal;
+use types::weight::Weights;
 
 // Stage 00.
 pub fn is_idle_now(st: State) -> bool

@@ -1,12 +1,12 @@
 // The sequence at rest and between stages: how it opens, starts, stops and fails, and whether a batch is under way.
 ghost use mathlib.Core.Path.{_≡_};
-ghost use Rattle.outline.specs.declared.stages.SequenceError.{SequenceError};
-ghost use Rattle.outline.specs.declared.stages.Judgement.{Judgement};
+ghost use Rattle.types.specs.declared.stages.SequenceError.{SequenceError};
+ghost use Rattle.types.specs.declared.stages.Judgement.{Judgement};
 ghost use Rattle.outline.specs.Stages.{openSequence, idleOf, failedOf, startSequence, stopSequence};
-use outline::stages::Judgement;
-use outline::stages::Sequence;
-use outline::stages::SequenceError;
-use outline::stages::Stage;
+use types::stages::Judgement;
+use types::stages::Sequence;
+use types::stages::SequenceError;
+use types::stages::Stage;
 
 // A sequence that enters the stage, with no error and no judgement.
 fn fresh(stage: Stage) -> Sequence

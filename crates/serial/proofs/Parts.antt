@@ -8,14 +8,14 @@ use mathlib.Core.List.{List}
 use lib.Dec.{leb}
 use lib.ListN.{length}
 use lib.IntN.{ℤ}
-use Rattle.outline.specs.declared.settings.Settings.{Settings}
-use Rattle.outline.specs.declared.machine.State.{State}
-use Rattle.outline.specs.declared.machine.Ticked.{Ticked}
-use Rattle.outline.specs.declared.lines.Command.{Command}
-use Rattle.outline.specs.declared.lines.Reply.{Reply}
-use Rattle.outline.specs.declared.lines.LineAnswer.{LineAnswer}
-use Rattle.outline.specs.declared.lines.LineAnswer.the-variants as told
-use Rattle.outline.specs.declared.lines.LineTick.{LineTick}
+use Rattle.types.specs.declared.settings.Settings.{Settings}
+use Rattle.types.specs.declared.machine.State.{State}
+use Rattle.types.specs.declared.machine.Ticked.{Ticked}
+use Rattle.types.specs.declared.lines.Command.{Command}
+use Rattle.types.specs.declared.lines.Reply.{Reply}
+use Rattle.types.specs.declared.lines.LineAnswer.{LineAnswer}
+use Rattle.types.specs.declared.lines.LineAnswer.the-variants as told
+use Rattle.types.specs.declared.lines.LineTick.{LineTick}
 use Rattle.outline.specs.Tick.{settledOf, nextOf, tickOf}
 use Rattle.outline.specs.Lines.{commandOf, requestOf}
 use Rattle.outline.specs.Replies.{replyText, replyDue, toldOf, askedOf, unaskedOf, dueText, lineTicked, lineTickOf, writtenOf, replyBuffer}

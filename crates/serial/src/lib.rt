@@ -5,16 +5,16 @@ ghost use Rattle.outline.specs.Lines.{requestOf};
 ghost use Rattle.outline.specs.Replies.{replyDue, toldOf, unaskedOf, lineTicked, lineTickOf, replyBuffer};
 ghost use Rattle.halves.specs.Halves.{halfwayOf, finishOf};
 use halves::Halfway;
-use outline::lines::Command;
-use outline::lines::LineAnswer;
-use outline::lines::LineTick;
-use outline::lines::Reply;
-use outline::machine::Input;
-use outline::machine::State;
-use outline::machine::Ticked;
-use outline::requests::Request;
-use outline::settings::Settings;
 use replies::Wrote;
+use types::lines::Command;
+use types::lines::LineAnswer;
+use types::lines::LineTick;
+use types::lines::Reply;
+use types::machine::Input;
+use types::machine::State;
+use types::machine::Ticked;
+use types::requests::Request;
+use types::settings::Settings;
 
 fn with_line(told: LineAnswer, length: usize, tick: Ticked) -> LineTick
     ensures { λ r. ⌜ r ≡ lineTicked told length tick ⌝ }

@@ -1,8 +1,8 @@
 // The setpoint rules.
 ghost use mathlib.Core.Path.{_≡_};
 ghost use Rattle.outline.specs.Setpoints.{openSetpoints, sevenFit, preliminaryFits, optionalFits, setpointsFit, noLargeFlow};
-use outline::settings::Mode;
-use outline::stages::Setpoints;
+use types::settings::Mode;
+use types::stages::Setpoints;
 
 // Each of the seven, in display digits.
 const SETPOINT_LIMIT: u32 = 999_999;

@@ -2,16 +2,16 @@
 ghost use mathlib.Core.Path.{_≡_};
 ghost use mathlib.Core.Bool.{true};
 ghost use Rattle.outline.specs.Settings.{settingsFit, modeOf, boardOf, settingsOf, openOf};
-use outline::analog::Board;
-use outline::settings::Batching;
-use outline::settings::Calibration;
-use outline::settings::Given;
-use outline::settings::Mode;
-use outline::settings::Opening;
-use outline::settings::Range;
-use outline::settings::Settings;
-use outline::settings::Steadiness;
-use outline::settings::Tracking;
+use types::analog::Board;
+use types::settings::Batching;
+use types::settings::Calibration;
+use types::settings::Given;
+use types::settings::Mode;
+use types::settings::Opening;
+use types::settings::Range;
+use types::settings::Settings;
+use types::settings::Steadiness;
+use types::settings::Tracking;
 
 fn mode_of(m: i32) -> Mode
     ensures { λ r. ⌜ r ≡ modeOf m ⌝ }

@@ -1,9 +1,9 @@
 // Stability: its own small state, and its step.
 ghost use mathlib.Core.Path.{_≡_};
 ghost use Rattle.outline.specs.Weight.{stableOf, steadiedOf};
-use outline::settings::Steadiness;
-use outline::weight::Raw;
-use outline::weight::Stability;
+use types::settings::Steadiness;
+use types::weight::Raw;
+use types::weight::Stability;
 
 // Stable when the run is k.
 pub fn is_stable(rule: Steadiness, q: Stability) -> bool

@@ -1,16 +1,16 @@
 // What each stage says of a tick: to which stage the sequence moves, that it fails, or that it finishes.
 ghost use mathlib.Core.Path.{_≡_};
 ghost use Rattle.outline.specs.Stages.{waitOf, afterLarge, firstFlow, afterStart, judgedOf, moveOf};
-use outline::settings::Batching;
-use outline::settings::Mode;
-use outline::stages::Facts;
-use outline::stages::Judgement;
-use outline::stages::Move;
-use outline::stages::SequenceError;
-use outline::stages::Setpoints;
-use outline::stages::Stage;
-use outline::stages::Timing;
 use setpoints::has_no_large;
+use types::settings::Batching;
+use types::settings::Mode;
+use types::stages::Facts;
+use types::stages::Judgement;
+use types::stages::Move;
+use types::stages::SequenceError;
+use types::stages::Setpoints;
+use types::stages::Stage;
+use types::stages::Timing;
 
 // A timed stage of n lasts max(n, 1) ticks: t lie before this one.
 fn wait(n: u16, t: u16) -> Timing

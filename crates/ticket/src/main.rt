@@ -6,18 +6,18 @@ use libc::STDOUT_FILENO;
 use logticks::log_tick;
 use opening::open;
 use opening::open_state;
-use outline::daybook::Book;
-use outline::daybook::Closed;
-use outline::lines::LineTick;
-use outline::log::LogTick;
-use outline::machine::State;
-use outline::settings::Given;
-use outline::settings::Opening;
-use outline::settings::Settings;
 use pieces::front;
 use pieces::line_end;
 use pieces::move_down;
 use pieces::whole_lines;
+use types::daybook::Book;
+use types::daybook::Closed;
+use types::lines::LineTick;
+use types::log::LogTick;
+use types::machine::State;
+use types::settings::Given;
+use types::settings::Opening;
+use types::settings::Settings;
 
 // The bytes of the longest line that can be read: a minus, nine digits, a space, the contact, a space and a request of 100.
 const LINE_LIMIT: usize = 113;

@@ -1,9 +1,9 @@
 // What a line is answered, from its command and from how its request was settled, where the reply due to it fits.
 ghost use mathlib.Core.Path.{_≡_};
 ghost use Rattle.outline.specs.Replies.{outcomeTold, toldOf};
-use outline::lines::Command;
-use outline::lines::LineAnswer;
-use outline::requests::Outcome;
+use types::lines::Command;
+use types::lines::LineAnswer;
+use types::requests::Outcome;
 
 fn outcome_told(o: Outcome) -> LineAnswer
     ensures { λ r. ⌜ r ≡ outcomeTold o ⌝ }

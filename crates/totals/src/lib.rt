@@ -2,10 +2,10 @@
 ghost use mathlib.Core.Path.{_≡_};
 ghost use Prim.Native.Nat.{_-_};
 ghost use Rattle.outline.specs.Totals.{clearTotals, bookable, bookedTotals, bookedSequence, noneBack, takenBack};
-use outline::stages::Batch;
-use outline::stages::Sequence;
-use outline::stages::SequenceError;
-use outline::stages::Totals;
+use types::stages::Batch;
+use types::stages::Sequence;
+use types::stages::SequenceError;
+use types::stages::Totals;
 
 // Total, in display digits.
 const TOTAL_LIMIT: u64 = 99_999_999;

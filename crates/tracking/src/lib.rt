@@ -3,10 +3,10 @@ ghost use mathlib.Core.Path.{_≡_};
 ghost use Prim.Native.Nat.{_≤_};
 ghost use lib.IntN.{natAbs};
 ghost use Rattle.outline.specs.Zero.{trackingOn, calmOf, withCounter, countedUp, trackedOf};
-use outline::settings::Settings;
-use outline::settings::Tracking;
-use outline::weight::Weighing;
-use outline::weight::Weights;
+use types::settings::Settings;
+use types::settings::Tracking;
+use types::weight::Weighing;
+use types::weight::Weights;
 use weight::is_fit;
 use zero::in_zero_range;
 

@@ -1,14 +1,14 @@
 // From raw to weight. Raw and gross fine are in tenths, gross, net and tare in display digits.
 ghost use mathlib.Core.Path.{_≡_};
 ghost use Rattle.outline.specs.Weight.{overloadOf, keptOf, weighOf, displayedOf, fitOf};
-use outline::settings::Range;
-use outline::settings::Settings;
-use outline::weight::Display;
-use outline::weight::Raw;
-use outline::weight::Stability;
-use outline::weight::Weighing;
-use outline::weight::Weights;
 use stability::is_stable;
+use types::settings::Range;
+use types::settings::Settings;
+use types::weight::Display;
+use types::weight::Raw;
+use types::weight::Stability;
+use types::weight::Weighing;
+use types::weight::Weights;
 
 // Overload is beyond the capacity and so many divisions.
 const OVERLOAD_MARGIN: u64 = 8;

@@ -1,8 +1,8 @@
 // Zero and tare: when each is accepted, and what it does. Raw is in tenths, gross and tare in display digits.
 ghost use mathlib.Core.Path.{_≡_};
 ghost use Rattle.outline.specs.Zero.{inZeroRange, zeroedOf, inTareRange, taredOf};
-use outline::settings::Range;
-use outline::weight::Weighing;
+use types::settings::Range;
+use types::weight::Weighing;
 
 // 10·|raw| is at most C·p.
 pub fn in_zero_range(r: Range, raw: i32) -> bool

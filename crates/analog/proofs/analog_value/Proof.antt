@@ -6,9 +6,9 @@ use mathlib.Core.Bool.{Bool, true}
 use mir.Facts.{toZ-ofZ}
 use lib.IntN.{ℤ}
 use lib.Ieee.{Float, binary64, sub}
-use Rattle.outline.specs.declared.analog.Scale.{Scale}
-use Rattle.outline.specs.declared.analog.Board.{Board}
-use Rattle.outline.specs.declared.analog.Board.the-variants.{None, Current, Voltage}
+use Rattle.types.specs.declared.analog.Scale.{Scale}
+use Rattle.types.specs.declared.analog.Board.{Board}
+use Rattle.types.specs.declared.analog.Board.the-variants.{None, Current, Voltage}
 use Rattle.outline.specs.Analog.{f64, clipOf, distanceOf, onBoard, analogOf}
 use Rattle.analog.proofs.Literals.{is-0, is-4, is-10, is-16}
 use Rattle.analog.proofs.analog_value.Statement.{statement}

@@ -8,7 +8,7 @@ use denote.Ref.{now}
 use lib.Dec.{lit<}
 use lib.ListN.{length, drop, getD}
 use Rattle.outline.specs.Lines.{numberFrom}
-use Rattle.outline.specs.declared.lines.Digits.the-variants.{NotDigits}
+use Rattle.types.specs.declared.lines.Digits.the-variants.{NotDigits}
 use Rattle.digits.specs.DigitLaws.{digit-range}
 use Rattle.fields.proofs.FieldLaws.{more, below, step, past}
 use Rattle.fields.proofs.number_of.Statement.{statement}

@@ -9,7 +9,7 @@ use mir.Facts.{toZ-ofZ}
 use mir.Syntax.{w32}
 use mir.Val.{SFits}
 use Rattle.outline.specs.Log.{logLineOf}
-use Rattle.outline.specs.declared.log.LogLine.the-variants.{Tick}
+use Rattle.types.specs.declared.log.LogLine.the-variants.{Tick}
 use Rattle.logs.specs.RequestPlace.{Placed, placed}
 use Rattle.logticks.proofs.TickLaws.{unreadable, unreadable-bytes, read, read-bytes}
 use Rattle.logticks.proofs.log_tick.Statement.{statement}

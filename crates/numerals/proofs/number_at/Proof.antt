@@ -14,7 +14,7 @@ use lib.Dec.{eqb}
 use mir.Facts.{toZ-ofZ}
 use mir.Syntax.{w32}
 use Rattle.whole.specs.Machine.{sfits-of}
-use Rattle.outline.specs.declared.log.LogNumber.the-variants.{Number}
+use Rattle.types.specs.declared.log.LogNumber.the-variants.{Number}
 use Rattle.numerals.proofs.RunLaws.{run-length, value-limit}
 use Rattle.numerals.proofs.NumberLaws.{beyond, from-within, no-digit, many-digits, number-read}
 use Rattle.numerals.proofs.number_at.Statement.{statement}

@@ -3,7 +3,7 @@ use mathlib.Core.Path.{sym, ap, _∙_}
 use borrow.Author.Needs.{needs}
 use borrow.Author.Tests.{eq-eqb, ne-eqb, lt-ltb, le-ltb}
 use Rattle.outline.specs.Setpoints.{optionalFits}
-use Rattle.outline.specs.declared.settings.Mode.{Mode}
+use Rattle.types.specs.declared.settings.Mode.{Mode}
 use Rattle.whole.specs.Chains.{and-last, and-both, or-last}
 use Rattle.setpoints.proofs.optional_fits.Statement.{statement}
 use Rattle.setpoints.proofs.optional_fits.Tie as tie

@@ -14,7 +14,7 @@ use mir.Syntax.{w64}
 use Rattle.whole.specs.Machine.{fits-of}
 use Rattle.outline.specs.Limits.{totalLimit, batchLimit}
 use Rattle.outline.specs.Totals.{bookable, bookedTotals}
-use Rattle.outline.specs.declared.stages.Totals.{Totals}
+use Rattle.types.specs.declared.stages.Totals.{Totals}
 use Rattle.totals.proofs.booked_totals.Statement.{statement}
 use Rattle.totals.proofs.booked_totals.Tie as tie
 

@@ -6,8 +6,8 @@ use mathlib.Core.Bool.{Bool, true, false, not, _&&_}
 use Prim.Native.Nat.{_≤_}
 use native.Mathlib.Omega.{arith}
 use lib.IntN.{natAbs}
-use Rattle.outline.specs.declared.settings.Tracking.{Tracking}
-use Rattle.outline.specs.declared.weight.Weights.{Weights}
+use Rattle.types.specs.declared.settings.Tracking.{Tracking}
+use Rattle.types.specs.declared.weight.Weights.{Weights}
 use Rattle.outline.specs.Weight.{fitOf}
 use Rattle.outline.specs.Zero.{calmOf, trackedOf}
 use Rattle.tracking.proofs.tracked.Statement.{statement}

@@ -1,0 +1,60 @@
+-- The output's buffer keeps its length; what is left of the keys is the measure.
+use Prim.Native.Nat.{_-_}
+use mathlib.Core.Path.{_≡_}
+use lib.ListN.{length}
+use borrow.Author.Needs.{needs}
+use Rattle.replay.proofs.text.put_values.Statement.{statement}
+use Rattle.replay.proofs.text.put_values.Tie as tie
+
+abbrev Inv-loop : tie.InvT-loop
+Inv-loop out₀ at keys values n₀ value₀ i₀ out n value i = length out ≡ length out₀
+
+abbrev μ-loop : tie.MeasureT-loop
+μ-loop out₀ at keys values n₀ value₀ i₀ out n value i = length keys - i
+
+loop-holds : tie.Need-loop-holds Inv-loop μ-loop
+loop-holds c = search needs
+
+shared-slice-read-byte : tie.Need-shared-slice-read-byte Inv-loop μ-loop
+shared-slice-read-byte c = search needs
+
+value-at-requires : tie.Need-value-at-requires Inv-loop μ-loop
+value-at-requires c κs = search needs
+
+put-part-requires : tie.Need-put-part-requires Inv-loop μ-loop
+put-part-requires c κs = search needs
+
+value-behind-requires : tie.Need-value-behind-requires Inv-loop μ-loop
+value-behind-requires c κs = search needs
+
+add-i : tie.Need-add-i Inv-loop μ-loop
+add-i c = search needs
+
+loop-less : tie.Need-loop-less Inv-loop μ-loop
+loop-less c = search needs
+
+loop-again : tie.Need-loop-again Inv-loop μ-loop
+loop-again c = search needs
+
+same-length : tie.Need-same-length Inv-loop μ-loop
+same-length c = search needs
+
+returns : tie.Need-returns Inv-loop μ-loop
+returns c = search needs
+
+pub put-values-spec : {M : Type 1} → statement M
+put-values-spec =
+    tie.close
+    (tie.spec
+    Inv-loop
+    μ-loop
+    loop-holds
+    shared-slice-read-byte
+    value-at-requires
+    put-part-requires
+    value-behind-requires
+    add-i
+    loop-less
+    loop-again
+    same-length
+    returns)
