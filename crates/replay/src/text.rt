@@ -70,6 +70,7 @@ fn value_at(values: &[i64], i: usize) -> i64 {
     if i < values.len() { values[i] } else { 0 }
 }
 
+// The next value behind a byte of the keys; no keys have as many ends as the test allows.
 fn value_behind(i: usize, byte: u8) -> usize {
     if ends_key(byte) {
         if i < 1_000 {
