@@ -1,2 +1,3 @@
--- A law that a proof of this crate cites
+-- Laws that the proofs of this crate cite
 pub mod RestLaws
+pub mod RequestPlace

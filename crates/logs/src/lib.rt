@@ -1,6 +1,6 @@
 // The lines of a log, `count contact request`: what stands in one, and whether it can be read at all. Every line is taken, of any bytes.
 ghost use mathlib.Core.Path.{_≡_};
-ghost use Rattle.outline.specs.Log.{isContact, isRest, logLineOf, isNone};
+ghost use Rattle.outline.specs.Log.{isContact, isRest, unreadable, logLineOf, isNone};
 use types::log::LogLine;
 use types::log::LogNumber;
 
@@ -47,18 +47,35 @@ fn is_rest(line: &[u8], at: usize) -> bool
     is_contact(line::byte_at(line, at + 1))
 }
 
+fn unreadable() -> LogLine
+    ensures { λ r. ⌜ r ≡ unreadable ⌝ }
+{
+    LogLine {
+        read: false,
+        count: 0,
+        contact: false,
+        request: 0,
+    }
+}
+
 // The count tells where the rest begins, so it is read first.
 pub fn log_line(line: &[u8]) -> LogLine
     ensures { λ r. ⌜ r ≡ logLineOf (now (line .entry)) ⌝ }
 {
     let LogNumber::Number(count, at) = numerals::number_at(line, 0) else {
-        return LogLine::Unreadable;
+        return unreadable();
     };
     if is_rest(line, at) {
-        LogLine::Tick(count, line::byte_at(line, at + 1) == CLOSED, at + GAP)
-    } else {
-        LogLine::Unreadable
+        let contact = line::byte_at(line, at + 1) == CLOSED;
+        let request = at + GAP;
+        return LogLine {
+            read: true,
+            count,
+            contact,
+            request,
+        };
     }
+    unreadable()
 }
 
 // `--` asks for nothing.

@@ -1,16 +1,12 @@
 // The tick of one line of a log: its count and contact, with its request given as a receive buffer would hold it.
 ghost use mathlib.Core.Path.{_≡_};
-ghost use mathlib.Core.Bool.{cond};
 ghost use Prim.Native.Nat.{_+_, _≤_};
 ghost use lib.ListN.{length, take};
-ghost use Rattle.outline.specs.Limits.{requestLimit};
 ghost use Rattle.outline.specs.Tick.{tickOf};
-ghost use Rattle.outline.specs.Replies.{unaskedOf, lineTicked, lineTickOf, replyBuffer};
-ghost use Rattle.outline.specs.Log.{isNone, receivedOf, requestTick, logTickOf, logBuffer};
+ghost use Rattle.outline.specs.Replies.{unaskedOf, lineTicked};
+ghost use Rattle.outline.specs.Log.{lineOf, requestTick, requestBuffer};
 use types::lines::LineAnswer;
 use types::lines::LineTick;
-use types::log::LogLine;
-use types::log::LogTick;
 use types::machine::Input;
 use types::machine::State;
 use types::requests::Request;
@@ -25,15 +21,15 @@ const END_BYTES: usize = 2;
 // Room for the longest request and its CR LF.
 const RECEIVE_BYTES: usize = logs::REQUEST_LIMIT + END_BYTES;
 
-// The request and CR LF, at the start of the receive buffer; the answer is the count of these bytes.
-fn put_received(receive: &mut [u8], request: &[u8]) -> usize
-    requires { ⌜ length (now request) + 2 ≤ length (now receive) ⌝ }
-    ensures count { λ r. ⌜ r ≡ length (now (request .entry)) + 2 ⌝ }
-    ensures bytes { λ r. ⌜ take (length (now (request .entry)) + 2) (now (receive .exit)) ≡ receivedOf (now (request .entry)) ⌝ }
+// The command and CR LF, at the start of the receive buffer; the answer is the count of these bytes.
+fn put_received(receive: &mut [u8], command: &[u8]) -> usize
+    requires { ⌜ length (now command) + 2 ≤ length (now receive) ⌝ }
+    ensures count { λ r. ⌜ r ≡ length (now (command .entry)) + 2 ⌝ }
+    ensures bytes { λ r. ⌜ take (length (now (command .entry)) + 2) (now (receive .exit)) ≡ lineOf (now (command .entry)) ⌝ }
 {
     let mut i: usize = 0;
-    while i < request.len() {
-        receive[i] = request[i];
+    while i < command.len() {
+        receive[i] = command[i];
         i += 1;
     }
     receive[i] = CR;
@@ -64,8 +60,8 @@ fn silent_tick(s: Settings, st: State, count: i32, contact: bool) -> LineTick
     }
 }
 
-// A serial command comes as it would from the line, with CR LF. The caller has seen to its length.
-fn command_tick(
+// Any request but none is a serial command, even one that the controller won't know: it comes as it would from the line, with CR LF.
+pub fn request_tick(
     s: Settings,
     st: State,
     count: i32,
@@ -73,41 +69,14 @@ fn command_tick(
     request: &[u8],
     reply: &mut [u8],
 ) -> LineTick
-    requires { ⌜ length (now request) ≤ requestLimit ⌝ }
-    ensures answer { λ r. ⌜ r ≡ lineTickOf s st count contact (receivedOf (now (request .entry))) (now (reply .entry)) ⌝ }
-    ensures bytes { λ r. ⌜ now (reply .exit) ≡ replyBuffer s st count contact (receivedOf (now (request .entry))) (now (reply .entry)) ⌝ }
-{
-    let mut receive = [0u8; RECEIVE_BYTES];
-    let n = put_received(&mut receive, request);
-    serial::line_tick(s, st, count, contact, &receive[..n], reply)
-}
-
-// Any request but none is a serial command, even one that the controller won't know.
-fn request_tick(
-    s: Settings,
-    st: State,
-    count: i32,
-    contact: bool,
-    request: &[u8],
-    reply: &mut [u8],
-) -> LineTick
-    requires { ⌜ length (now request) ≤ requestLimit ⌝ }
     ensures answer { λ r. ⌜ r ≡ requestTick s st count contact (now (request .entry)) (now (reply .entry)) ⌝ }
-    ensures bytes { λ r. ⌜ now (reply .exit) ≡ cond (isNone (now (request .entry))) (now (reply .entry)) (replyBuffer s st count contact (receivedOf (now (request .entry))) (now (reply .entry))) ⌝ }
+    ensures bytes { λ r. ⌜ now (reply .exit) ≡ requestBuffer s st count contact (now (request .entry)) (now (reply .entry)) ⌝ }
 {
     if logs::is_none(request) {
         return silent_tick(s, st, count, contact);
     }
-    command_tick(s, st, count, contact, request, reply)
-}
-
-// A line that can't be read makes no tick and leaves the reply buffer as it is.
-pub fn log_tick(s: Settings, st: State, line: &[u8], reply: &mut [u8]) -> LogTick
-    ensures answer { λ r. ⌜ r ≡ logTickOf s st (now (line .entry)) (now (reply .entry)) ⌝ }
-    ensures bytes { λ r. ⌜ now (reply .exit) ≡ logBuffer s st (now (line .entry)) (now (reply .entry)) ⌝ }
-{
-    let LogLine::Tick(count, contact, at) = logs::log_line(line) else {
-        return LogTick::Unreadable;
-    };
-    LogTick::Ticked(request_tick(s, st, count, contact, &line[at..], reply))
+    let mut receive = [0u8; RECEIVE_BYTES];
+    let command = pieces::part(request, 0, logs::REQUEST_LIMIT);
+    let n = put_received(&mut receive, command);
+    serial::line_tick(s, st, count, contact, &receive[..n], reply)
 }

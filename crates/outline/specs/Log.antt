@@ -2,7 +2,7 @@
 -- without the LF that ends it.
 use Prim.Native.Nat.{ℕ, suc, _+_, _-_, _*_}
 use mathlib.Core.List.{List, [], _∷_, _++_}
-use mathlib.Core.Bool.{Bool, cond, _&&_, _||_}
+use mathlib.Core.Bool.{Bool, true, false, cond, _&&_, _||_}
 use lib.ListN.{length, getD, take, drop}
 use lib.Dec.{leb, eqb}
 use lib.IntN.{ℤ, pos, negℤ}
@@ -13,9 +13,6 @@ use Rattle.types.specs.declared.lines.LineAnswer.the-variants as told
 use Rattle.types.specs.declared.log.LogNumber.{LogNumber}
 use Rattle.types.specs.declared.log.LogNumber.the-variants as number
 use Rattle.types.specs.declared.log.LogLine.{LogLine}
-use Rattle.types.specs.declared.log.LogLine.the-variants as logline
-use Rattle.types.specs.declared.log.LogTick.{LogTick}
-use Rattle.types.specs.declared.log.LogTick.the-variants as logtick
 use Rattle.outline.specs.Limits.{numberDigits, requestLimit}
 use Rattle.outline.specs.Lines.{isDigit}
 use Rattle.outline.specs.Tick.{tickOf}
@@ -62,10 +59,16 @@ isRest line at =
     eqb (getD line at 0) 32 && isContact (getD line (at + 1) 0) && eqb (getD line (at + 2) 0) 32
     && leb (at + 4) (length line) && leb (length line) (at + 3 + requestLimit)
 
+-- a line of this count and contact, with its request from a place on
+abbrev pub tickLine : ℤ → Bool → ℕ → LogLine
+tickLine count contact at = record { read = true; count = count; contact = contact; request = at }
+
+abbrev pub unreadable : LogLine
+unreadable = record { read = false; count = pos 0; contact = false; request = 0 }
+
 abbrev pub behindCount : List ℕ → LogNumber → LogLine
-behindCount line (number.Number count at) =
-    cond (isRest line at) (logline.Tick count (eqb (getD line (at + 1) 0) 49) (at + 3)) logline.Unreadable
-behindCount line number.Unreadable = logline.Unreadable
+behindCount line (number.Number count at) = cond (isRest line at) (tickLine count (eqb (getD line (at + 1) 0) 49) (at + 3)) unreadable
+behindCount line number.Unreadable = unreadable
 
 -- "lines `count contact request` .., parted by single spaces"
 unfoldable pub logLineOf : List ℕ → LogLine
@@ -76,9 +79,13 @@ unfoldable pub isNone : List ℕ → Bool
 isNone request = eqb (length request) 2 && eqb (getD request 0 0) 45 && eqb (getD request 1 0) 45
 
 -- ---- its tick
--- "or else a serial command .. given with CR LF"
+-- "given with CR LF"
+abbrev pub lineOf : List ℕ → List ℕ
+lineOf command = command ++ (13 ∷ 10 ∷ [])
+
+-- "a serial command of 1 to 100 bytes": no line that can be read has a longer one
 abbrev pub receivedOf : List ℕ → List ℕ
-receivedOf request = request ++ (13 ∷ 10 ∷ [])
+receivedOf request = lineOf (take requestLimit request)
 
 -- the tick of a count, a contact and a request; without a request it has no line and no reply
 unfoldable pub requestTick : Settings → State → ℤ → Bool → List ℕ → List ℕ → LineTick
@@ -86,18 +93,7 @@ requestTick s st count contact request buffer =
     cond (isNone request) (lineTicked told.Done 0 (tickOf s st (unaskedOf count contact)))
     (lineTickOf s st count contact (receivedOf request) buffer)
 
-abbrev pub tickOfLine : Settings → State → List ℕ → LogLine → List ℕ → LogTick
-tickOfLine s st line (logline.Tick count contact at) buffer = logtick.Ticked (requestTick s st count contact (drop at line) buffer)
-tickOfLine s st line logline.Unreadable buffer = logtick.Unreadable
-
-unfoldable pub logTickOf : Settings → State → List ℕ → List ℕ → LogTick
-logTickOf s st line buffer = tickOfLine s st line (logLineOf line) buffer
-
 -- the reply buffer after it
-abbrev pub bufferOfLine : Settings → State → List ℕ → LogLine → List ℕ → List ℕ
-bufferOfLine s st line (logline.Tick count contact at) buffer =
-    cond (isNone (drop at line)) buffer (replyBuffer s st count contact (receivedOf (drop at line)) buffer)
-bufferOfLine s st line logline.Unreadable buffer = buffer
-
-unfoldable pub logBuffer : Settings → State → List ℕ → List ℕ → List ℕ
-logBuffer s st line buffer = bufferOfLine s st line (logLineOf line) buffer
+unfoldable pub requestBuffer : Settings → State → ℤ → Bool → List ℕ → List ℕ → List ℕ
+requestBuffer s st count contact request buffer =
+    cond (isNone request) buffer (replyBuffer s st count contact (receivedOf request) buffer)

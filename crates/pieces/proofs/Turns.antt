@@ -9,13 +9,10 @@ use mathlib.Core.Bool.{cond}
 use lib.Dec.{eqb}
 use lib.ListN.{length, getD, set, take, drop, length-drop}
 use lib.Seq.{drop-cons, take-suc, set-at, length-take-le, getD-append-add, getD-drop}
-use Rattle.pieces.specs.Pieces.{endFrom, wholeFrom}
+use Rattle.pieces.specs.Pieces.{endFrom}
 
 pub look : (s : List ℕ) (i : ℕ) → i < length s → endFrom i (drop i s) ≡ cond (eqb (getD s i 0) 10) i (endFrom (i + 1) (drop (i + 1) s))
 look s i h = rw (drop-cons s i 0 h, add-one)
-
-pub pass : (s : List ℕ) (i last : ℕ) → i < length s → wholeFrom i last (drop i s) ≡ wholeFrom (i + 1) (cond (eqb (getD s i 0) 10) (i + 1) last) (drop (i + 1) s)
-pass s i last h = rw (drop-cons s i 0 h, add-one)
 
 -- i bytes are moved
 abbrev pub movedBy : List ℕ → ℕ → ℕ → List ℕ

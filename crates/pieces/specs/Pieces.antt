@@ -14,15 +14,6 @@ endFrom n (x ∷ s) = cond (eqb x 10) n (endFrom (suc n) s)
 unfoldable pub lineEnd : List ℕ → ℕ → ℕ
 lineEnd piece from = endFrom from (drop from piece)
 
--- the place behind the last LF: n bytes are passed, and `last` is that place among them
-abbrev pub wholeFrom : ℕ → ℕ → List ℕ → ℕ
-wholeFrom n last [] = last
-wholeFrom n last (x ∷ s) = wholeFrom (suc n) (cond (eqb x 10) (suc n) last) s
-
--- the bytes of the lines that end in a piece
-unfoldable pub wholeLines : List ℕ → ℕ
-wholeLines piece = wholeFrom 0 0 piece
-
 -- the bytes from a place on, at the start; a place past the end moves none
 unfoldable pub movedDown : List ℕ → ℕ → List ℕ
 movedDown l from = cond (leb from (length l)) (drop from l ++ drop (length l - from) l) l

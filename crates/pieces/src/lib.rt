@@ -1,20 +1,25 @@
-// An input that is read in pieces: the lines that end in a piece, and the beginning of a line whose end is still to come.
+// An input that is read in pieces: the lines of a piece, and the beginning of a line whose end is still to come.
 ghost use mathlib.Core.Path.{_≡_};
-ghost use mathlib.Core.Bool.{cond};
-ghost use lib.Dec.{eqb};
-ghost use lib.ListN.{take};
-ghost use Rattle.pieces.specs.Pieces.{lineEnd, wholeLines, movedDown};
+ghost use Prim.Native.Nat.{_-_};
+ghost use lib.ListN.{take, drop};
+ghost use Rattle.pieces.specs.Pieces.{lineEnd, movedDown};
 
 const LF: u8 = 10;
 
-// The first n bytes, or all of fewer.
-pub fn front(bytes: &[u8], n: usize) -> &[u8]
-    ensures { λ r. ⌜ now r ≡ take n (now (bytes .entry)) ⌝ }
+// The bytes from a place to an end, as far as there are any.
+pub fn part(bytes: &[u8], from: usize, end: usize) -> &[u8]
+    ensures { λ r. ⌜ now r ≡ take (end - from) (drop from (now (bytes .entry))) ⌝ }
 {
-    if n < bytes.len() {
-        return &bytes[..n];
+    if end <= from {
+        return &bytes[..0];
     }
-    bytes
+    if end < bytes.len() {
+        return &bytes[from..end];
+    }
+    if from < bytes.len() {
+        return &bytes[from..];
+    }
+    &bytes[..0]
 }
 
 // Where the line that begins at a place ends: at the next LF, or at the piece's end.
@@ -29,26 +34,6 @@ pub fn line_end(piece: &[u8], from: usize) -> usize
         i += 1;
     }
     i
-}
-
-// The place behind the last LF so far, after one byte more.
-fn behind(byte: u8, at: usize, last: usize) -> usize
-    ensures { λ r. ⌜ r ≡ cond (eqb byte 10) at last ⌝ }
-{
-    if byte == LF { at } else { last }
-}
-
-// The bytes of the lines that end in a piece, each with its LF; what stands behind them is the beginning of another.
-pub fn whole_lines(piece: &[u8]) -> usize
-    ensures { λ r. ⌜ r ≡ wholeLines (now (piece .entry)) ⌝ }
-{
-    let mut last: usize = 0;
-    let mut i: usize = 0;
-    while i < piece.len() {
-        last = behind(piece[i], i + 1, last);
-        i += 1;
-    }
-    last
 }
 
 // Brings the bytes from a place on to the start of the buffer. Those that they do not cover stay.

@@ -3,6 +3,7 @@ use crate::number::error_number;
 use crate::number::stage_number;
 use crate::number::told_number;
 use crate::text::flag;
+use crate::text::flushed;
 use crate::text::put;
 use crate::text::put_bits;
 use crate::text::put_byte;
@@ -12,6 +13,7 @@ use crate::text::put_two;
 use crate::text::put_values;
 use crate::text::small;
 use crate::text::wide;
+use pieces::part;
 use types::analog::Analog;
 use types::daybook::Book;
 use types::lines::LineTick;
@@ -82,15 +84,13 @@ fn put_signals(out: &mut [u8], at: usize, error: SequenceError, near: bool, full
 }
 
 fn put_outputs(out: &mut [u8], at: usize, a: Answer) -> usize {
-    let reading = a.reading;
     let stage = a.stage;
-    let gates = a.gates;
     let judgement = a.judgement;
     let error = a.error;
     let analog = a.analog;
-    let at = put_reading(out, at, reading);
+    let at = put_reading(out, at, a.reading);
     let at = put_two(out, at, b" stage=", stage_number(stage));
-    let at = put_gates(out, at, gates);
+    let at = put_gates(out, at, a.gates);
     let at = put_judgement(out, at, judgement);
     let at = put_signals(out, at, error, a.near, a.full);
     put_analog(out, at, analog)
@@ -136,24 +136,19 @@ fn put_setpoints(out: &mut [u8], at: usize, p: Setpoints) -> usize {
 }
 
 fn put_state(out: &mut [u8], at: usize, st: State) -> usize {
-    let weighing = st.weighing;
-    let book = st.book;
-    let totals = st.totals;
-    let setpoints = st.setpoints;
-    let at = put_weighing(out, at, weighing);
-    let at = put_book(out, at, book);
-    let at = put_totals(out, at, totals);
-    let at = put_setpoints(out, at, setpoints);
+    let at = put_weighing(out, at, st.weighing);
+    let at = put_book(out, at, st.book);
+    let at = put_totals(out, at, st.totals);
+    let at = put_setpoints(out, at, st.setpoints);
     put_byte(out, at, 10)
 }
 
-// `reply` is the reply's own bytes.
+// The reply's bytes are the first of its buffer.
 pub(crate) fn put_tick(out: &mut [u8], at: usize, t: LineTick, reply: &[u8]) -> usize {
     let told = t.told;
-    let answer = t.answer;
-    let state = t.state;
+    let at = flushed(out, at);
     let at = put_count(out, at, b"answer=", told_number(told) as u64);
-    let at = put_hex(out, at, b" reply=", reply);
-    let at = put_outputs(out, at, answer);
-    put_state(out, at, state)
+    let at = put_hex(out, at, b" reply=", part(reply, 0, t.length));
+    let at = put_outputs(out, at, t.answer);
+    put_state(out, at, t.state)
 }

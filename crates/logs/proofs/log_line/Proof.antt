@@ -9,7 +9,7 @@ use mir.Syntax.{w32}
 use mir.Val.{SFits}
 use Rattle.whole.specs.Machine.{sfits-of}
 use Rattle.outline.specs.Log.{logLineOf}
-use Rattle.logs.specs.RequestPlace.{Placed, rest-placed}
+use Rattle.logs.proofs.RequestPlace.{Placed, rest-placed}
 use Rattle.logs.proofs.log_line.Statement.{statement}
 use Rattle.logs.proofs.log_line.Tie as tie
 
@@ -27,9 +27,12 @@ enum-known-count c = search needs
 enum-told : tie.Need-enum-told
 enum-told c = search needs
 
+unreadable-requires : tie.Need-unreadable-requires
+unreadable-requires c κs = search needs
+
 returns : tie.Need-returns
 unfolding logLineOf
-returns c = simp (sym (c .before .before .number-at .ensures) ∙ c .enum-told .given .1)
+returns c = simp (c .unreadable .ensures, sym (c .before .before .before .number-at .ensures) ∙ c .before .enum-told .given .1)
 
 is-rest-requires : tie.Need-is-rest-requires
 is-rest-requires c κs = search needs
@@ -40,8 +43,8 @@ add-byte-at c = omega (arith, within c)
 byte-at-requires : tie.Need-byte-at-requires
 byte-at-requires c κs = search needs
 
-add-t10 : tie.Need-add-t10
-add-t10 c = omega (arith, within (c .before))
+add-request : tie.Need-add-request
+add-request c = omega (arith, within (c .before))
 
 returns-2 : tie.Need-returns-2
 unfolding logLineOf
@@ -50,9 +53,12 @@ returns-2 c =
     let f : SFits w32 (g .count .given .0 .0) = search sfits-of in
     simp (toZ-ofZ f, sym (g .before .before .number-at .ensures) ∙ g .count .given .1, ← c .before .before .is-rest .ensures, c .before .if1 .taken, c .byte-at .ensures)
 
+unreadable-requires-2 : tie.Need-unreadable-requires-2
+unreadable-requires-2 c κs = search needs
+
 returns-3 : tie.Need-returns-3
 unfolding logLineOf
-returns-3 c = simp (sym (c .before .before .before .before .before .number-at .ensures) ∙ c .before .before .before .count .given .1, ← c .before .is-rest .ensures, c .if1 .left)
+returns-3 c = simp (c .unreadable2 .ensures, sym (c .before .before .before .before .before .before .number-at .ensures) ∙ c .before .before .before .before .count .given .1, ← c .before .before .is-rest .ensures, c .before .if1 .left)
 
 pub log-line-spec : {M : Type 1} → statement M
 log-line-spec =
@@ -61,10 +67,12 @@ log-line-spec =
     number-at-requires
     enum-known-count
     enum-told
+    unreadable-requires
     returns
     is-rest-requires
     add-byte-at
     byte-at-requires
-    add-t10
+    add-request
     returns-2
+    unreadable-requires-2
     returns-3)

@@ -1,4 +1,4 @@
--- The buffer begins with the bytes of the request that were passed, and keeps its length.
+-- The buffer begins with the bytes of the command that were passed, and keeps its length.
 use Prim.Native.Nat.{_-_, _≤_, zero-le}
 use mathlib.Core.Path.{_≡_, refl}
 use native.Mathlib.Omega.{arith}
@@ -9,10 +9,10 @@ use Rattle.logticks.proofs.put_received.Statement.{statement}
 use Rattle.logticks.proofs.put_received.Tie as tie
 
 abbrev Inv-loop : tie.InvT-loop
-Inv-loop receive₀ request i₀ receive i = (i ≤ length request) × (length receive ≡ length receive₀) × (take i receive ≡ take i request)
+Inv-loop receive₀ command i₀ receive i = (i ≤ length command) × (length receive ≡ length receive₀) × (take i receive ≡ take i command)
 
 abbrev μ-loop : tie.MeasureT-loop
-μ-loop receive₀ request i₀ receive i = length request - i
+μ-loop receive₀ command i₀ receive i = length command - i
 
 loop-holds : tie.Need-loop-holds Inv-loop μ-loop
 loop-holds c = (zero-le, refl, refl)
@@ -32,7 +32,7 @@ loop-less c = omega arith
 loop-again : tie.Need-loop-again Inv-loop μ-loop
 loop-again c =
     let l = c .before .before in
-    (omega arith, simp length-set (l .loop .inv .1), copied (now (l .before .args .request)) _ (l .loop .i) (c .before .loop-test .taken) (omega (arith, l .before .pre)) (l .loop .inv .2))
+    (omega arith, simp length-set (l .loop .inv .1), copied (now (l .before .args .command)) _ (l .loop .i) (c .before .loop-test .taken) (omega (arith, l .before .pre)) (l .loop .inv .2))
 
 slice-write-receive-2 : tie.Need-slice-write-receive-2 Inv-loop μ-loop
 slice-write-receive-2 c = omega (arith, c .before .before .pre)
@@ -52,7 +52,7 @@ same-length c = simp length-set (c .before .loop .inv .1)
 returns : tie.Need-returns Inv-loop μ-loop
 returns c =
     let l = c .before in
-    (omega arith, ended (now (l .before .args .request)) _ (l .loop .i) (omega arith) (omega (arith, l .before .pre)) (l .loop .inv .2))
+    (omega arith, ended (now (l .before .args .command)) _ (l .loop .i) (omega arith) (omega (arith, l .before .pre)) (l .loop .inv .2))
 
 pub put-received-spec : {M : Type 1} → statement M
 put-received-spec =

@@ -1,36 +1,53 @@
--- The buffers keep their lengths, and the pieces are counted down.
+-- The buffers keep their lengths, and the ticks are counted down.
 use mathlib.Core.Path.{_≡_}
 use lib.ListN.{length}
+use native.Mathlib.Omega.{arith}
 use borrow.Author.Needs.{needs}
 use Rattle.replay.proofs.run_ticks.Statement.{statement}
 use Rattle.replay.proofs.run_ticks.Tie as tie
 
 abbrev Inv-loop : tie.InvT-loop
-Inv-loop s start all space₀ reply₀ out₀ run₀ turns₀ space reply out run turns = (length space ≡ length space₀) × (length reply ≡ length reply₀) × (length out ≡ length out₀)
+Inv-loop s start space₀ reply₀ out₀ state₀ at₀ line₀ turns₀ space reply out state at line turns = (length space ≡ length space₀) × (length reply ≡ length reply₀) × (length out ≡ length out₀)
 
 abbrev μ-loop : tie.MeasureT-loop
-μ-loop s start all space₀ reply₀ out₀ run₀ turns₀ space reply out run turns = turns
+μ-loop s start space₀ reply₀ out₀ state₀ at₀ line₀ turns₀ space reply out state at line turns = turns
 
 open-state-requires : tie.Need-open-state-requires Inv-loop μ-loop
 open-state-requires c κs = search needs
 
-passed-requires : tie.Need-passed-requires Inv-loop μ-loop
-passed-requires c κs = search needs
+next-line-requires : tie.Need-next-line-requires Inv-loop μ-loop
+next-line-requires c κs = search needs
 
 loop-holds : tie.Need-loop-holds Inv-loop μ-loop
 loop-holds c = search needs
 
-turned-requires : tie.Need-turned-requires Inv-loop μ-loop
-turned-requires c κs = search needs
+request-in-requires : tie.Need-request-in-requires Inv-loop μ-loop
+request-in-requires c κs = search needs
+
+request-tick-requires : tie.Need-request-tick-requires Inv-loop μ-loop
+request-tick-requires c κs = search needs
+
+put-tick-requires : tie.Need-put-tick-requires Inv-loop μ-loop
+put-tick-requires c κs = search needs
+
+next-line-requires-2 : tie.Need-next-line-requires-2 Inv-loop μ-loop
+next-line-requires-2 c κs = search needs
 
 sub-turns : tie.Need-sub-turns Inv-loop μ-loop
-sub-turns c = search needs
+sub-turns c = omega (arith, c .before .before .before .before .before .before .before .before .before .before .before .before .before .before .before .before .before .before .loop-test .taken)
 
 loop-less : tie.Need-loop-less Inv-loop μ-loop
-loop-less c = search needs
+loop-less c = omega (arith, c .before .before .before .before .before .before .before .before .before .before .before .before .before .before .before .before .before .before .loop-test .taken)
 
 loop-again : tie.Need-loop-again Inv-loop μ-loop
-loop-again c = search needs
+loop-again c =
+    let o = c .before .before .before .before .before .before in
+    let r = o .before .before .before .before .before in
+    let l = r .before .before .before .before .before .before .before .before .loop .inv in
+    (omega (arith, c .before .space2 .given, l .0), omega (arith, r .reply .given, l .1), omega (arith, o .out .given, l .2))
+
+put-end-requires : tie.Need-put-end-requires Inv-loop μ-loop
+put-end-requires c κs = search needs
 
 written-requires : tie.Need-written-requires Inv-loop μ-loop
 written-requires c κs = search needs
@@ -54,12 +71,16 @@ run-ticks-spec =
     Inv-loop
     μ-loop
     open-state-requires
-    passed-requires
+    next-line-requires
     loop-holds
-    turned-requires
+    request-in-requires
+    request-tick-requires
+    put-tick-requires
+    next-line-requires-2
     sub-turns
     loop-less
     loop-again
+    put-end-requires
     written-requires
     same-length
     same-length-2

@@ -1,4 +1,4 @@
--- The buffers keep their lengths, and the pieces are counted down.
+-- The buffers keep their lengths, and the ticks are counted down.
 use mathlib.Core.Path.{_≡_}
 use lib.ListN.{length}
 use borrow.Author.Needs.{needs}
@@ -6,28 +6,46 @@ use Rattle.ticket.proofs.read_log.Statement.{statement}
 use Rattle.ticket.proofs.read_log.Tie as tie
 
 abbrev Inv-loop : tie.InvT-loop
-Inv-loop s run₀ space₀ reply₀ turns₀ run space reply turns = (length space ≡ 65536) × (length reply ≡ 64)
+Inv-loop s space₀ reply₀ state₀ line₀ turns₀ space reply state line turns = (length space ≡ 65536) × (length reply ≡ 64)
 
 abbrev μ-loop : tie.MeasureT-loop
-μ-loop s run₀ space₀ reply₀ turns₀ run space reply turns = turns
-
-open-state-requires : tie.Need-open-state-requires Inv-loop μ-loop
-open-state-requires c κs = search needs
+μ-loop s space₀ reply₀ state₀ line₀ turns₀ space reply state line turns = turns
 
 large-buffer-requires : tie.Need-large-buffer-requires Inv-loop μ-loop
 large-buffer-requires c κs = search needs
 
+open-state-requires : tie.Need-open-state-requires Inv-loop μ-loop
+open-state-requires c κs = search needs
+
+slice-aggregate-first-line : tie.Need-slice-aggregate-first-line Inv-loop μ-loop
+slice-aggregate-first-line c = search needs
+
+first-line-requires : tie.Need-first-line-requires Inv-loop μ-loop
+first-line-requires c κs = search needs
+
 loop-holds : tie.Need-loop-holds Inv-loop μ-loop
 loop-holds c = search needs
 
-slice-aggregate-turned : tie.Need-slice-aggregate-turned Inv-loop μ-loop
-slice-aggregate-turned c = search needs
+slice-aggregate-request-in : tie.Need-slice-aggregate-request-in Inv-loop μ-loop
+slice-aggregate-request-in c = search needs
 
-slice-aggregate-turned-2 : tie.Need-slice-aggregate-turned-2 Inv-loop μ-loop
-slice-aggregate-turned-2 c = search needs
+request-in-requires : tie.Need-request-in-requires Inv-loop μ-loop
+request-in-requires c κs = search needs
 
-turned-requires : tie.Need-turned-requires Inv-loop μ-loop
-turned-requires c κs = search needs
+slice-aggregate-request-tick : tie.Need-slice-aggregate-request-tick Inv-loop μ-loop
+slice-aggregate-request-tick c = search needs
+
+request-tick-requires : tie.Need-request-tick-requires Inv-loop μ-loop
+request-tick-requires c κs = search needs
+
+print-ticket-requires : tie.Need-print-ticket-requires Inv-loop μ-loop
+print-ticket-requires c κs = search needs
+
+slice-aggregate-next-line : tie.Need-slice-aggregate-next-line Inv-loop μ-loop
+slice-aggregate-next-line c = search needs
+
+next-line-requires : tie.Need-next-line-requires Inv-loop μ-loop
+next-line-requires c κs = search needs
 
 sub-turns : tie.Need-sub-turns Inv-loop μ-loop
 sub-turns c = search needs
@@ -38,11 +56,11 @@ loop-less c = search needs
 loop-again : tie.Need-loop-again Inv-loop μ-loop
 loop-again c = search needs
 
+print-end-requires : tie.Need-print-end-requires Inv-loop μ-loop
+print-end-requires c κs = search needs
+
 returns : tie.Need-returns Inv-loop μ-loop
 returns c = search needs
-
-returns-2 : tie.Need-returns-2 Inv-loop μ-loop
-returns-2 c = search needs
 
 pub read-log-spec : {M : Type 1} → statement M
 read-log-spec =
@@ -50,14 +68,20 @@ read-log-spec =
     (tie.spec
     Inv-loop
     μ-loop
-    open-state-requires
     large-buffer-requires
+    open-state-requires
+    slice-aggregate-first-line
+    first-line-requires
     loop-holds
-    slice-aggregate-turned
-    slice-aggregate-turned-2
-    turned-requires
+    slice-aggregate-request-in
+    request-in-requires
+    slice-aggregate-request-tick
+    request-tick-requires
+    print-ticket-requires
+    slice-aggregate-next-line
+    next-line-requires
     sub-turns
     loop-less
     loop-again
-    returns
-    returns-2)
+    print-end-requires
+    returns)

@@ -1,2 +1,0 @@
--- A law that the crates above cite
-pub mod RequestPlace
