@@ -38,8 +38,9 @@ fn of_totals(h: u64, t: Totals) -> u64 {
 }
 
 pub(crate) fn digest(st: State) -> u64 {
-    let sequence = st.sequence;
-    let stability = st.stability;
     let parts = of_totals(of_weighing(of_book(0, st.book), st.weighing), st.totals);
-    mixed(mixed(parts, sequence.clock as u64), stability.run as u64)
+    mixed(
+        mixed(parts, st.sequence.clock as u64),
+        st.stability.run as u64,
+    )
 }

@@ -65,28 +65,29 @@ fn setpoints() -> Setpoints {
     }
 }
 
-fn asked(s: Settings, st: State, request: Request) -> State {
+// The setpoints before the first of three blocks, a start before the second, a stop before the third.
+fn request_of(turn: u64) -> Request {
+    if turn % 3 == 0 {
+        return Request::Set(setpoints());
+    }
+    if turn % 3 == 1 {
+        return Request::Start;
+    }
+    Request::Stop
+}
+
+// The tick before a block.
+fn prepared(s: Settings, st: State, turn: u64) -> State {
     let ticked = tick(
         s,
         st,
         Input {
             count: 0,
             contact: false,
-            request,
+            request: request_of(turn),
         },
     );
     ticked.state
-}
-
-// One tick before each block: the setpoints before the first of three, a start before the second, a stop before the third.
-fn prepared(s: Settings, st: State, turn: u64) -> State {
-    if turn % 3 == 0 {
-        return asked(s, st, Request::Set(setpoints()));
-    }
-    if turn % 3 == 1 {
-        return asked(s, st, Request::Start);
-    }
-    asked(s, st, Request::Stop)
 }
 
 fn count_of(a: u8, b: u8, c: u8) -> i32 {
@@ -118,21 +119,21 @@ fn print(name: &[u8], n: u64) {
     io::write_all(STDOUT_FILENO, b"\n");
 }
 
-// One block, or the end of the input.
-enum Turn {
-    Done(State),
-    End,
-}
-
-fn turned(s: Settings, st: State, turn: u64, bytes: &mut [u8], counts: &mut [i32]) -> Turn {
+// Reads one block; false at the end of the input.
+fn read_block(bytes: &mut [u8], counts: &mut [i32]) -> bool {
     let got = io::read_full(STDIN_FILENO, bytes);
     if got < BLOCK_BYTES {
-        return Turn::End;
+        return false;
     }
     fill(bytes, counts);
-    let done = run_block(s, prepared(s, st, turn), counts, false);
-    let state = done.state;
-    Turn::Done(state)
+    true
+}
+
+// One block, and the tick before it.
+fn turned(s: Settings, mut st: State, turn: u64, counts: &[i32]) -> State {
+    st = prepared(s, st, turn);
+    let done = run_block(s, st, counts, false);
+    done.state
 }
 
 // A proved loop has to end, and nothing says that the input does: so the turns are counted, up to a number that no run reaches.
@@ -142,10 +143,10 @@ fn run(s: Settings) {
     let mut counts = [0i32; 4096];
     let mut turn: u64 = 0;
     while turn < 1_000_000_000 {
-        match turned(s, held, turn, &mut bytes, &mut counts) {
-            Turn::Done(state) => held = state,
-            Turn::End => break,
+        if !read_block(&mut bytes, &mut counts) {
+            break;
         }
+        held = turned(s, held, turn, &counts);
         turn += 1;
     }
     print(b"ticks=", turn * 4097);

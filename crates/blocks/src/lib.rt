@@ -29,17 +29,16 @@ fn unasked(st: State) -> Settled
 }
 
 // With no request step 4 leaves the state as it is, and the weights serve to the end.
-fn count_in(s: Settings, contact: bool, st: State, count: i32) -> State
+fn count_in(s: Settings, contact: bool, mut st: State, count: i32) -> State
     ensures { λ r. ⌜ r ≡ countIn s contact st count ⌝ }
 {
-    let cal = s.calibration;
-    let raw = raw::raw_of(cal, count);
-    let state = entered(s, st, raw, contact);
-    let x = weights_of(s, state, raw, contact);
-    ended(s, unasked(state), x)
+    let raw = raw::raw_of(s.calibration, count);
+    st = entered(s, st, raw, contact);
+    let x = weights_of(s, st, raw, contact);
+    ended(s, unasked(st), x)
 }
 
-pub fn run_block(s: Settings, st: State, counts: &[i32], contact: bool) -> Blocked
+pub fn run_block(s: Settings, mut st: State, counts: &[i32], contact: bool) -> Blocked
     ensures { λ r. ⌜ r ≡ blockOf s st (now (counts .entry)) contact ⌝ }
 {
     if BLOCK_LIMIT < counts.len() {
@@ -48,15 +47,14 @@ pub fn run_block(s: Settings, st: State, counts: &[i32], contact: bool) -> Block
             state: st,
         };
     }
-    let mut held = st;
     let mut i = 0;
     while i < counts.len() {
         let count = counts[i];
-        held = count_in(s, contact, held, count);
+        st = count_in(s, contact, st, count);
         i += 1;
     }
     Blocked {
         answer: BlockAnswer::Run,
-        state: held,
+        state: st,
     }
 }

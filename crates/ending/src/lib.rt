@@ -2,7 +2,6 @@
 ghost use mathlib.Core.Path.{_≡_};
 ghost use Rattle.outline.specs.Tick.{withTracking, finishedOf, steppedOf, endedOf};
 use parts::with_sequence;
-use parts::with_totals;
 use parts::with_weighing;
 use rulings::is_idle_now;
 use types::machine::Settled;
@@ -15,26 +14,26 @@ use types::weight::Weights;
 fn after_tracking(s: Settings, a: Settled, x: Weights) -> State
     ensures { λ r. ⌜ r ≡ withTracking s a x ⌝ }
 {
-    let st = a.state;
-    let weighing = st.weighing;
-    let idle = is_idle_now(st);
-    with_weighing(st, tracking::tracked(s, idle, a.keyed, x, weighing))
+    let idle = is_idle_now(a.state);
+    with_weighing(
+        a.state,
+        tracking::tracked(s, idle, a.keyed, x, a.state.weighing),
+    )
 }
 
 // A finished batch is booked.
-fn after_finish(s: Settings, st: State, x: Weights, a: Advanced) -> State
+fn after_finish(s: Settings, mut st: State, x: Weights, a: Advanced) -> State
     ensures { λ r. ⌜ r ≡ finishedOf s st x a ⌝ }
 {
-    let sequence = a.sequence;
     if a.finished {
-        let totals = st.totals;
         let batching = s.batching;
         let mode = batching.mode;
         let v = comparison::compared(mode, x);
-        let landed = with_sequence(st, totals::booked_sequence(totals, v, sequence));
-        return with_totals(landed, totals::booked_totals(totals, v));
+        st.sequence = totals::booked_sequence(st.totals, v, a.sequence);
+        st.totals = totals::booked_totals(st.totals, v);
+        return st;
     }
-    with_sequence(st, sequence)
+    with_sequence(st, a.sequence)
 }
 
 // Step 6, which has nothing to do in stage 00.
@@ -46,14 +45,12 @@ fn after_sequence(s: Settings, st: State, x: Weights) -> State
     }
     let batching = s.batching;
     let mode = batching.mode;
-    let setpoints = st.setpoints;
-    let sequence = st.sequence;
-    let facts = comparison::facts(mode, setpoints, x);
+    let facts = comparison::facts(mode, st.setpoints, x);
     after_finish(
         s,
         st,
         x,
-        batch::advance(batching, setpoints, sequence, facts),
+        batch::advance(batching, st.setpoints, st.sequence, facts),
     )
 }
 

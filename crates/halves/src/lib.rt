@@ -22,18 +22,16 @@ pub struct Halfway {
 }
 
 // Steps 1 to 4. The weights are worked out again with the zero and the tare that the request leaves.
-pub fn half_tick(s: Settings, st: State, i: Input) -> Halfway
+pub fn half_tick(s: Settings, mut st: State, i: Input) -> Halfway
     ensures { λ r. ⌜ r ≡ halfwayOf s st i ⌝ }
 {
-    let cal = s.calibration;
     let request = i.request;
-    let raw = raw::raw_of(cal, i.count);
-    let before = entered(s, st, raw, i.contact);
-    let settled = settle(s, before, weights_of(s, before, raw, i.contact), request);
-    let left = settled.state;
+    let raw = raw::raw_of(s.calibration, i.count);
+    st = entered(s, st, raw, i.contact);
+    let settled = settle(s, st, weights_of(s, st, raw, i.contact), request);
     Halfway {
         settled,
-        weights: weights_of(s, left, raw, i.contact),
+        weights: weights_of(s, settled.state, raw, i.contact),
     }
 }
 
@@ -56,8 +54,6 @@ fn outputs(s: Settings, a: Settled, x: Weights, st: State) -> Answer
     let batching = s.batching;
     let mode = batching.mode;
     let board = s.board;
-    let scale = s.scale;
-    let setpoints = st.setpoints;
     let sequence = st.sequence;
     let stage = sequence.stage;
     let judgement = sequence.judgement;
@@ -72,12 +68,12 @@ fn outputs(s: Settings, a: Settled, x: Weights, st: State) -> Answer
         outcome,
         reading: reading(x),
         stage,
-        gates: gates::open_gates(setpoints, stage),
+        gates: gates::open_gates(st.setpoints, stage),
         judgement,
         error,
-        near: levels::is_near(setpoints, x),
-        full: levels::is_full(mode, setpoints, x),
-        analog: analog::analog_value(board, scale, shown, fit),
+        near: levels::is_near(st.setpoints, x),
+        full: levels::is_full(mode, st.setpoints, x),
+        analog: analog::analog_value(board, s.scale, shown, fit),
         closed,
     }
 }
@@ -86,11 +82,9 @@ fn outputs(s: Settings, a: Settled, x: Weights, st: State) -> Answer
 pub fn finish_tick(s: Settings, h: Halfway) -> Ticked
     ensures { λ r. ⌜ r ≡ finishOf s h ⌝ }
 {
-    let a = h.settled;
-    let x = h.weights;
-    let state = ended(s, a, x);
+    let state = ended(s, h.settled, h.weights);
     Ticked {
         state,
-        answer: outputs(s, a, x, state),
+        answer: outputs(s, h.settled, h.weights, state),
     }
 }

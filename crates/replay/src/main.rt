@@ -3,6 +3,7 @@
 // Standard input: a first line of 22 whole numbers, the settings, then a line `count contact request` for each tick. Standard output:
 // `answer=` and the number of the opening, then a line of key=value pairs for each tick. The first argument, 0 to 64, is the
 // length of the reply buffer (64 without it).
+ghost use Prim.Native.Nat.{_≤_};
 use crate::given::GivenLine;
 use crate::shown::put_tick;
 use crate::text::flushed;
@@ -51,67 +52,60 @@ fn request_in(space: &[u8], line: Line) -> &[u8] {
 
 // The ticks, from the line behind `first` on. A proved loop has to end, and nothing says that the input does: so the ticks are counted,
 // from a number that no run uses up.
-fn run_ticks(
-    s: Settings,
-    first: Line,
-    start: usize,
-    space: &mut [u8],
-    reply: &mut [u8],
-    out: &mut [u8],
-) {
+fn run_ticks(s: Settings, first: Line, space: &mut [u8], reply: &mut [u8]) {
+    let mut out = io::large_buffer();
+    let mut at = text::put(&mut out, 0, b"answer=0\n");
     let mut state = open_state();
-    let mut at = start;
     let mut line = next_line(first, space);
     let mut turns = u64::MAX;
     while turns > 0 && line.said.read {
         let request = request_in(space, line);
         let t = request_tick(s, state, line.said.count, line.said.contact, request, reply);
-        at = put_tick(out, at, t, reply);
+        at = put_tick(&mut out, at, t, reply);
         state = t.state;
         line = next_line(line, space);
         turns -= 1;
     }
-    let end = put_end(out, at, line);
-    written(out, end);
+    let end = put_end(&mut out, at, line);
+    written(&out, end);
 }
 
 // Tells the opening's answer; under accepted settings the ticks run.
-fn opened(g: Given, first: Line, space: &mut [u8], reply: &mut [u8], out: &mut [u8]) {
+fn opened(g: Given, first: Line, space: &mut [u8], reply: &mut [u8]) {
     match open(g) {
-        Opening::Accepted(s) => {
-            let start = text::put(out, 0, b"answer=0\n");
-            run_ticks(s, first, start, space, reply, out);
-        }
+        Opening::Accepted(s) => run_ticks(s, first, space, reply),
         Opening::Refused => {
             io::write_all(STDOUT_FILENO, b"answer=10\n");
         }
     }
 }
 
-fn read_settings(space: &mut [u8], reply: &mut [u8], out: &mut [u8]) {
+fn read_settings(space: &mut [u8], reply: &mut [u8]) {
     let first = first_line(space);
     match given::given_line(part(space, first.from, first.end)) {
-        GivenLine::Read(g) => opened(g, first, space, reply, out),
+        GivenLine::Read(g) => opened(g, first, space, reply),
         GivenLine::Unreadable => {
             io::write_all(STDOUT_FILENO, b"refused=1\n");
         }
     }
 }
 
-// The reply buffer has `room` bytes.
-fn read_within(room: usize, space: &mut [u8], reply: &mut [u8], out: &mut [u8]) {
-    if room < reply.len() {
-        read_settings(space, &mut reply[..room], out);
+// The reply buffer is no longer than its array.
+fn within(room: usize) -> usize
+    ensures { λ r. ⌜ r ≤ 64 ⌝ }
+{
+    if room < REPLY_LIMIT {
+        room
     } else {
-        read_settings(space, reply, out);
+        REPLY_LIMIT
     }
 }
 
 fn read_log(room: usize) {
     let mut space = io::large_buffer();
-    let mut out = io::large_buffer();
-    let mut reply = [0u8; 64];
-    read_within(room, &mut space, &mut reply, &mut out);
+    let mut reply = [0u8; REPLY_LIMIT];
+    let lent = within(room);
+    read_settings(&mut space, &mut reply[..lent]);
 }
 
 // What the first argument reads as: the length of the reply buffer.

@@ -38,19 +38,16 @@ fn put_reading(out: &mut [u8], at: usize, x: Reading) -> usize {
     put_values(out, at, b" good= gross= net= overload= stable=", &values)
 }
 
-fn put_gate(out: &mut [u8], at: usize, open: bool, letter: u8) -> usize {
-    if open {
-        return put_byte(out, at, letter);
-    }
-    put_byte(out, at, 45)
+// A dash is a shut gate.
+fn gate(open: bool, letter: u8) -> u8 {
+    if open { letter } else { 45 }
 }
 
-// Three characters; a dash is a shut gate.
+// Three characters.
 fn put_gates(out: &mut [u8], at: usize, g: Gates) -> usize {
+    let gates = [gate(g.large, 76), gate(g.medium, 77), gate(g.small, 83)];
     let at = put(out, at, b" gates=");
-    let at = put_gate(out, at, g.large, 76);
-    let at = put_gate(out, at, g.medium, 77);
-    put_gate(out, at, g.small, 83)
+    put(out, at, &gates)
 }
 
 fn put_judgement(out: &mut [u8], at: usize, j: Judgement) -> usize {
@@ -67,7 +64,7 @@ fn put_float(out: &mut [u8], at: usize, x: f64) -> usize {
     if x != x {
         return put(out, at, b" analog=-");
     }
-    put_bits(out, at, b" analog=", f64::to_bits(x))
+    put_bits(out, at, b" analog=", f64::to_bits(x), 16)
 }
 
 fn put_analog(out: &mut [u8], at: usize, a: Analog) -> usize {
@@ -96,34 +93,25 @@ fn put_outputs(out: &mut [u8], at: usize, a: Answer) -> usize {
     put_analog(out, at, analog)
 }
 
-fn put_weighing(out: &mut [u8], at: usize, w: Weighing) -> usize {
-    let values = [wide(w.zero), wide(w.tracked), wide(w.tare)];
-    put_values(out, at, b" zero= tracked= tare=", &values)
-}
-
-fn put_book(out: &mut [u8], at: usize, b: Book) -> usize {
+fn put_weights(out: &mut [u8], at: usize, w: Weighing, b: Book) -> usize {
     let values = [
+        wide(w.zero),
+        wide(w.tracked),
+        wide(w.tare),
         wide(b.opening),
         b.refilled,
         b.used,
         b.unbooked,
         wide(b.last),
     ];
-    put_values(
-        out,
-        at,
-        b" opening= refilled= used= unbooked= last=",
-        &values,
-    )
+    let keys = b" zero= tracked= tare= opening= refilled= used= unbooked= last=";
+    put_values(out, at, keys, &values)
 }
 
-fn put_totals(out: &mut [u8], at: usize, t: Totals) -> usize {
-    let values = [small(t.total), small(t.count as u64)];
-    put_values(out, at, b" total= batches=", &values)
-}
-
-fn put_setpoints(out: &mut [u8], at: usize, p: Setpoints) -> usize {
+fn put_batches(out: &mut [u8], at: usize, t: Totals, p: Setpoints) -> usize {
     let values = [
+        small(t.total),
+        small(t.count as u64),
         small(p.target as u64),
         small(p.fall as u64),
         small(p.preliminary as u64),
@@ -132,14 +120,12 @@ fn put_setpoints(out: &mut [u8], at: usize, p: Setpoints) -> usize {
         small(p.under as u64),
         small(p.near as u64),
     ];
-    put_values(out, at, b" setpoints=,,,,,,", &values)
+    put_values(out, at, b" total= batches= setpoints=,,,,,,", &values)
 }
 
 fn put_state(out: &mut [u8], at: usize, st: State) -> usize {
-    let at = put_weighing(out, at, st.weighing);
-    let at = put_book(out, at, st.book);
-    let at = put_totals(out, at, st.totals);
-    let at = put_setpoints(out, at, st.setpoints);
+    let at = put_weights(out, at, st.weighing, st.book);
+    let at = put_batches(out, at, st.totals, st.setpoints);
     put_byte(out, at, 10)
 }
 

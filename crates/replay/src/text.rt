@@ -47,16 +47,11 @@ pub(crate) fn put_count(out: &mut [u8], at: usize, key: &[u8], n: u64) -> usize 
     put(out, behind, &digits[..k])
 }
 
-fn put_sign(out: &mut [u8], at: usize, n: i64) -> usize {
-    if n < 0 {
-        return put_byte(out, at, 45);
-    }
-    at
-}
-
 fn put_signed(out: &mut [u8], at: usize, n: i64) -> usize {
-    let digits = put_sign(out, at, n);
-    put_count(out, digits, b"", whole::magnitude(n))
+    if n < 0 {
+        return put_count(out, at, b"-", whole::magnitude(n));
+    }
+    put_count(out, at, b"", whole::magnitude(n))
 }
 
 pub(crate) fn wide(n: i32) -> i64 {
@@ -80,19 +75,16 @@ fn ends_key(byte: u8) -> bool {
     byte == 61 || byte == 44
 }
 
-fn put_part(out: &mut [u8], at: usize, byte: u8, value: i64) -> usize {
+// A byte of the keys, and where it ends one the value with that number.
+fn put_part(out: &mut [u8], at: usize, byte: u8, values: &[i64], i: usize) -> usize {
     let behind = put_byte(out, at, byte);
-    if ends_key(byte) {
-        return put_signed(out, behind, value);
+    if ends_key(byte) && i < values.len() {
+        return put_signed(out, behind, values[i]);
     }
     behind
 }
 
-fn value_at(values: &[i64], i: usize) -> i64 {
-    if i < values.len() { values[i] } else { 0 }
-}
-
-// The next value behind a byte of the keys; no keys have as many ends as the test allows.
+// The number of the next value behind a byte of the keys; no keys have as many ends as the test allows.
 fn value_behind(i: usize, byte: u8) -> usize {
     if ends_key(byte) {
         if i < 1_000 {
@@ -109,7 +101,7 @@ pub(crate) fn put_values(out: &mut [u8], at: usize, keys: &[u8], values: &[i64])
     let mut i: usize = 0;
     while i < keys.len() {
         let byte = keys[i];
-        n = put_part(out, n, byte, value_at(values, value));
+        n = put_part(out, n, byte, values, value);
         value = value_behind(value, byte);
         i += 1;
     }
@@ -123,45 +115,28 @@ pub(crate) fn put_two(out: &mut [u8], at: usize, key: &[u8], n: u8) -> usize {
     put_byte(out, tens, 48 + n % 10)
 }
 
-// The 16 hex digits of 64 bits.
-pub(crate) fn put_bits(out: &mut [u8], at: usize, key: &[u8], bits: u64) -> usize {
+// The last hex digits of 64 bits, up to 16 of them.
+pub(crate) fn put_bits(out: &mut [u8], at: usize, key: &[u8], bits: u64, count: usize) -> usize {
     let behind = put(out, at, key);
     let mut digits = [0u8; 16];
-    let k = io::hex(bits, 16, &mut digits);
+    let k = io::hex(bits, count, &mut digits);
     put(out, behind, &digits[..k])
 }
 
-fn hex_digit(n: u8) -> u8 {
-    if n < 10 {
-        return 48 + n;
-    }
-    if n < 16 {
-        return 87 + n;
-    }
-    48
-}
-
 fn put_hex_byte(out: &mut [u8], at: usize, byte: u8) -> usize {
-    let high = put_byte(out, at, hex_digit(byte / 16));
-    put_byte(out, high, hex_digit(byte % 16))
+    put_bits(out, at, b"", byte as u64, 2)
 }
 
-// Bytes in hex, two digits each.
-fn put_hex_bytes(out: &mut [u8], at: usize, bytes: &[u8]) -> usize {
-    let mut n = at;
+// Bytes in hex, two digits each; `-` where there is none.
+pub(crate) fn put_hex(out: &mut [u8], at: usize, key: &[u8], bytes: &[u8]) -> usize {
+    let mut n = put(out, at, key);
+    if bytes.len() == 0 {
+        return put_byte(out, n, 45);
+    }
     let mut i: usize = 0;
     while i < bytes.len() {
         n = put_hex_byte(out, n, bytes[i]);
         i += 1;
     }
     n
-}
-
-// `-` where there is none.
-pub(crate) fn put_hex(out: &mut [u8], at: usize, key: &[u8], bytes: &[u8]) -> usize {
-    let behind = put(out, at, key);
-    if bytes.len() == 0 {
-        return put_byte(out, behind, 45);
-    }
-    put_hex_bytes(out, behind, bytes)
 }

@@ -18,20 +18,20 @@ open-state-requires c κs = search needs
 loop-holds : tie.Need-loop-holds Inv-loop μ-loop
 loop-holds c = search needs
 
+slice-aggregate-read-block : tie.Need-slice-aggregate-read-block Inv-loop μ-loop
+slice-aggregate-read-block c = search needs
+
+slice-aggregate-read-block-2 : tie.Need-slice-aggregate-read-block-2 Inv-loop μ-loop
+slice-aggregate-read-block-2 c = search needs
+
+read-block-requires : tie.Need-read-block-requires Inv-loop μ-loop
+read-block-requires c κs = search needs
+
 slice-aggregate-turned : tie.Need-slice-aggregate-turned Inv-loop μ-loop
 slice-aggregate-turned c = search needs
 
-slice-aggregate-turned-2 : tie.Need-slice-aggregate-turned-2 Inv-loop μ-loop
-slice-aggregate-turned-2 c = search needs
-
 turned-requires : tie.Need-turned-requires Inv-loop μ-loop
 turned-requires c κs = search needs
-
-enum-known-state : tie.Need-enum-known-state Inv-loop μ-loop
-enum-known-state c = search needs
-
-enum-told : tie.Need-enum-told Inv-loop μ-loop
-enum-told c = search needs
 
 add-turn : tie.Need-add-turn Inv-loop μ-loop
 add-turn c = search needs
@@ -71,11 +71,11 @@ run-spec =
     μ-loop
     open-state-requires
     loop-holds
+    slice-aggregate-read-block
+    slice-aggregate-read-block-2
+    read-block-requires
     slice-aggregate-turned
-    slice-aggregate-turned-2
     turned-requires
-    enum-known-state
-    enum-told
     add-turn
     loop-less
     loop-again

@@ -32,7 +32,7 @@ returns c =
       u .before .weights-of .ensures,
       m .entered .ensures,
       m .before .raw-of .ensures,
-      toZ-ofZ (m .before .before .before .fits .count),
+      toZ-ofZ (m .before .before .fits .count),
     )
 
 pub count-in-spec : {M : Type 1} → statement M

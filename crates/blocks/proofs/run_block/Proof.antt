@@ -1,4 +1,4 @@
--- The state held is the fold over the counts passed. The measure is what is left of the counts.
+-- The state is the fold over the counts passed. The measure is what is left of the counts.
 use mathlib.Core.Path.{_≡_, refl}
 use mathlib.Core.List.{List, foldl, foldl-append}
 use Prim.Native.Nat.{ℕ, _+_, _-_, _<_, _≤_}
@@ -22,10 +22,10 @@ fold-more : {A B : Type 0} (f : B → A → B) (b : B) (l : List A) (i : ℕ) (d
 fold-more f b l i d h = rw (add-one, take-suc l i d h, foldl-append)
 
 abbrev Inv-loop : tie.InvT-loop
-Inv-loop s counts contact held₀ i₀ held i = (i ≤ length counts) × (held ≡ foldl (countIn s contact) held₀ (take i counts))
+Inv-loop s st₀ counts contact i₀ st i = (i ≤ length counts) × (st ≡ foldl (countIn s contact) st₀ (take i counts))
 
 abbrev μ-loop : tie.MeasureT-loop
-μ-loop s counts contact held₀ i₀ held i = length counts - i
+μ-loop s st₀ counts contact i₀ st i = length counts - i
 
 returns : tie.Need-returns Inv-loop μ-loop
 unfolding blockOf

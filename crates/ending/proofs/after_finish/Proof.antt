@@ -12,34 +12,26 @@ compared-requires c κs = search needs
 booked-sequence-requires : tie.Need-booked-sequence-requires
 booked-sequence-requires c κs = search needs
 
-with-sequence-requires : tie.Need-with-sequence-requires
-with-sequence-requires c κs = search needs
-
 booked-totals-requires : tie.Need-booked-totals-requires
 booked-totals-requires c κs = search needs
-
-with-totals-requires : tie.Need-with-totals-requires
-with-totals-requires c κs = search needs
 
 returns : tie.Need-returns
 unfolding finishedOf
 returns c =
-    let v = c .before .before .before .before in
+    let v = c .before .before in
     simp (
-      c .with-totals .ensures,
-      c .before .booked-totals .ensures,
-      c .before .before .with-sequence .ensures,
-      c .before .before .before .booked-sequence .ensures,
+      c .booked-totals .ensures,
+      c .before .booked-sequence .ensures,
       be (got {w = w64} (v .compared .result) (v .compared .ok)) (v .compared .ensures) .read,
-      v .before .before .before .if1 .taken,
+      v .before .before .if1 .taken,
     )
 
-with-sequence-requires-2 : tie.Need-with-sequence-requires-2
-with-sequence-requires-2 c κs = search needs
+with-sequence-requires : tie.Need-with-sequence-requires
+with-sequence-requires c κs = search needs
 
 returns-2 : tie.Need-returns-2
 unfolding finishedOf
-returns-2 c = simp (c .with-sequence2 .ensures, c .before .if1 .left)
+returns-2 c = simp (c .with-sequence .ensures, c .before .if1 .left)
 
 pub after-finish-spec : {M : Type 1} → statement M
 after-finish-spec =
@@ -47,9 +39,7 @@ after-finish-spec =
     (tie.spec
     compared-requires
     booked-sequence-requires
-    with-sequence-requires
     booked-totals-requires
-    with-totals-requires
     returns
-    with-sequence-requires-2
+    with-sequence-requires
     returns-2)

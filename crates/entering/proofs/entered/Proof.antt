@@ -11,28 +11,20 @@ use Rattle.entering.proofs.entered.Tie as tie
 last : (s : tie.Start) → SFits w32 (s .args .st .book .last)
 last s = search sfits-of
 
-book-tick-requires : tie.Need-book-tick-requires
-book-tick-requires c κs = search needs
-
-with-book-requires : tie.Need-with-book-requires
-with-book-requires c κs = search needs
-
 steadied-requires : tie.Need-steadied-requires
 steadied-requires c κs = search needs
 
-with-stability-requires : tie.Need-with-stability-requires
-with-stability-requires c κs = search needs
+book-tick-requires : tie.Need-book-tick-requires
+book-tick-requires c κs = search needs
 
 returns : tie.Need-returns
 unfolding enteredOf
-returns c = simp (c .with-stability .ensures, c .before .steadied .ensures, c .before .before .before .with-book .ensures, c .before .before .before .before .book-tick .ensures, toZ-ofZ (last (c .before .before .before .before .before .before .before .before)))
+returns c = simp (c .book-tick .ensures, c .before .steadied .ensures, toZ-ofZ (last (c .before .before .before)))
 
 pub entered-spec : {M : Type 1} → statement M
 entered-spec =
     tie.close
     (tie.spec
-    book-tick-requires
-    with-book-requires
     steadied-requires
-    with-stability-requires
+    book-tick-requires
     returns)

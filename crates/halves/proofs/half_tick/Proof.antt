@@ -30,7 +30,7 @@ weights-of-requires-2 c κs = search needs
 returns : tie.Need-returns
 unfolding halfwayOf settledOf servedOf
 returns c =
-    let a = c .before .before in
+    let a = c .before in
     let m = a .before .before in
     simp (
       c .weights-of2 .ensures,
@@ -38,7 +38,7 @@ returns c =
       a .before .weights-of .ensures,
       m .entered .ensures,
       m .before .raw-of .ensures,
-      toZ-ofZ (count (m .before .before .before .before)),
+      toZ-ofZ (count (m .before .before .before)),
     )
 
 pub half-tick-spec : {M : Type 1} → statement M

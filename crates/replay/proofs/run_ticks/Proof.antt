@@ -7,10 +7,22 @@ use Rattle.replay.proofs.run_ticks.Statement.{statement}
 use Rattle.replay.proofs.run_ticks.Tie as tie
 
 abbrev Inv-loop : tie.InvT-loop
-Inv-loop s start space₀ reply₀ out₀ state₀ at₀ line₀ turns₀ space reply out state at line turns = (length space ≡ length space₀) × (length reply ≡ length reply₀) × (length out ≡ length out₀)
+Inv-loop s space₀ reply₀ out₀ at₀ state₀ line₀ turns₀ space reply out at state line turns = (length space ≡ length space₀) × (length reply ≡ length reply₀) × (length out ≡ 65536)
 
 abbrev μ-loop : tie.MeasureT-loop
-μ-loop s start space₀ reply₀ out₀ state₀ at₀ line₀ turns₀ space reply out state at line turns = turns
+μ-loop s space₀ reply₀ out₀ at₀ state₀ line₀ turns₀ space reply out at state line turns = turns
+
+large-buffer-requires : tie.Need-large-buffer-requires Inv-loop μ-loop
+large-buffer-requires c κs = search needs
+
+slice-aggregate-put : tie.Need-slice-aggregate-put Inv-loop μ-loop
+slice-aggregate-put c = search needs
+
+slice-aggregate-put-2 : tie.Need-slice-aggregate-put-2 Inv-loop μ-loop
+slice-aggregate-put-2 c = search needs
+
+put-requires : tie.Need-put-requires Inv-loop μ-loop
+put-requires c κs = search needs
 
 open-state-requires : tie.Need-open-state-requires Inv-loop μ-loop
 open-state-requires c κs = search needs
@@ -27,6 +39,9 @@ request-in-requires c κs = search needs
 request-tick-requires : tie.Need-request-tick-requires Inv-loop μ-loop
 request-tick-requires c κs = search needs
 
+slice-aggregate-put-tick : tie.Need-slice-aggregate-put-tick Inv-loop μ-loop
+slice-aggregate-put-tick c = search needs
+
 put-tick-requires : tie.Need-put-tick-requires Inv-loop μ-loop
 put-tick-requires c κs = search needs
 
@@ -34,20 +49,25 @@ next-line-requires-2 : tie.Need-next-line-requires-2 Inv-loop μ-loop
 next-line-requires-2 c κs = search needs
 
 sub-turns : tie.Need-sub-turns Inv-loop μ-loop
-sub-turns c = omega (arith, c .before .before .before .before .before .before .before .before .before .before .before .before .before .before .before .before .before .before .loop-test .taken)
+sub-turns c = omega (arith, c .before .before .before .before .before .before .before .before .before .before .before .before .before .before .before .before .before .loop-test .taken)
 
 loop-less : tie.Need-loop-less Inv-loop μ-loop
-loop-less c = omega (arith, c .before .before .before .before .before .before .before .before .before .before .before .before .before .before .before .before .before .before .loop-test .taken)
+loop-less c = omega (arith, c .before .before .before .before .before .before .before .before .before .before .before .before .before .before .before .before .before .loop-test .taken)
 
 loop-again : tie.Need-loop-again Inv-loop μ-loop
 loop-again c =
-    let o = c .before .before .before .before .before .before in
-    let r = o .before .before .before .before .before in
+    let r = c .before .before .before .before .before .before .before .before .before .before in
     let l = r .before .before .before .before .before .before .before .before .loop .inv in
-    (omega (arith, c .before .space2 .given, l .0), omega (arith, r .reply .given, l .1), omega (arith, o .out .given, l .2))
+    (omega (arith, c .before .space2 .given, l .0), omega (arith, r .reply .given, l .1), search needs)
+
+slice-aggregate-put-end : tie.Need-slice-aggregate-put-end Inv-loop μ-loop
+slice-aggregate-put-end c = search needs
 
 put-end-requires : tie.Need-put-end-requires Inv-loop μ-loop
 put-end-requires c κs = search needs
+
+slice-aggregate-written : tie.Need-slice-aggregate-written Inv-loop μ-loop
+slice-aggregate-written c = search needs
 
 written-requires : tie.Need-written-requires Inv-loop μ-loop
 written-requires c κs = search needs
@@ -58,9 +78,6 @@ same-length c = search needs
 same-length-2 : tie.Need-same-length-2 Inv-loop μ-loop
 same-length-2 c = search needs
 
-same-length-3 : tie.Need-same-length-3 Inv-loop μ-loop
-same-length-3 c = search needs
-
 returns : tie.Need-returns Inv-loop μ-loop
 returns c = search needs
 
@@ -70,19 +87,25 @@ run-ticks-spec =
     (tie.spec
     Inv-loop
     μ-loop
+    large-buffer-requires
+    slice-aggregate-put
+    slice-aggregate-put-2
+    put-requires
     open-state-requires
     next-line-requires
     loop-holds
     request-in-requires
     request-tick-requires
+    slice-aggregate-put-tick
     put-tick-requires
     next-line-requires-2
     sub-turns
     loop-less
     loop-again
+    slice-aggregate-put-end
     put-end-requires
+    slice-aggregate-written
     written-requires
     same-length
     same-length-2
-    same-length-3
     returns)

@@ -18,9 +18,6 @@ loop-holds c = search needs
 shared-slice-read-byte : tie.Need-shared-slice-read-byte Inv-loop μ-loop
 shared-slice-read-byte c = search needs
 
-value-at-requires : tie.Need-value-at-requires Inv-loop μ-loop
-value-at-requires c κs = search needs
-
 put-part-requires : tie.Need-put-part-requires Inv-loop μ-loop
 put-part-requires c κs = search needs
 
@@ -50,7 +47,6 @@ put-values-spec =
     μ-loop
     loop-holds
     shared-slice-read-byte
-    value-at-requires
     put-part-requires
     value-behind-requires
     add-i

@@ -3,14 +3,26 @@ use Prim.Native.Nat.{_-_}
 use mathlib.Core.Path.{_≡_}
 use lib.ListN.{length}
 use borrow.Author.Needs.{needs}
-use Rattle.replay.proofs.text.put_hex_bytes.Statement.{statement}
-use Rattle.replay.proofs.text.put_hex_bytes.Tie as tie
+use Rattle.replay.proofs.text.put_hex.Statement.{statement}
+use Rattle.replay.proofs.text.put_hex.Tie as tie
 
 abbrev Inv-loop : tie.InvT-loop
-Inv-loop out₀ at bytes n₀ i₀ out n i = length out ≡ length out₀
+Inv-loop out₀ at key bytes n₀ i₀ out n i = length out ≡ length out₀
 
 abbrev μ-loop : tie.MeasureT-loop
-μ-loop out₀ at bytes n₀ i₀ out n i = length bytes - i
+μ-loop out₀ at key bytes n₀ i₀ out n i = length bytes - i
+
+put-requires : tie.Need-put-requires Inv-loop μ-loop
+put-requires c κs = search needs
+
+put-byte-requires : tie.Need-put-byte-requires Inv-loop μ-loop
+put-byte-requires c κs = search needs
+
+same-length : tie.Need-same-length Inv-loop μ-loop
+same-length c = search needs
+
+returns : tie.Need-returns Inv-loop μ-loop
+returns c = search needs
 
 loop-holds : tie.Need-loop-holds Inv-loop μ-loop
 loop-holds c = search needs
@@ -30,23 +42,27 @@ loop-less c = search needs
 loop-again : tie.Need-loop-again Inv-loop μ-loop
 loop-again c = search needs
 
-same-length : tie.Need-same-length Inv-loop μ-loop
-same-length c = search needs
+same-length-2 : tie.Need-same-length-2 Inv-loop μ-loop
+same-length-2 c = search needs
 
-returns : tie.Need-returns Inv-loop μ-loop
-returns c = search needs
+returns-2 : tie.Need-returns-2 Inv-loop μ-loop
+returns-2 c = search needs
 
-pub put-hex-bytes-spec : {M : Type 1} → statement M
-put-hex-bytes-spec =
+pub put-hex-spec : {M : Type 1} → statement M
+put-hex-spec =
     tie.close
     (tie.spec
     Inv-loop
     μ-loop
+    put-requires
+    put-byte-requires
+    same-length
+    returns
     loop-holds
     shared-slice-read-put-hex-byte
     put-hex-byte-requires
     add-i
     loop-less
     loop-again
-    same-length
-    returns)
+    same-length-2
+    returns-2)
