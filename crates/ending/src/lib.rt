@@ -1,8 +1,6 @@
 // The steps of a tick after the request: 5 and 6.
 ghost use mathlib.Core.Path.{_≡_};
 ghost use Rattle.outline.specs.Tick.{withTracking, finishedOf, steppedOf, endedOf};
-use parts::with_sequence;
-use parts::with_weighing;
 use rulings::is_idle_now;
 use types::machine::Settled;
 use types::machine::State;
@@ -14,11 +12,10 @@ use types::weight::Weights;
 fn after_tracking(s: Settings, a: Settled, x: Weights) -> State
     ensures { λ r. ⌜ r ≡ withTracking s a x ⌝ }
 {
-    let idle = is_idle_now(a.state);
-    with_weighing(
-        a.state,
-        tracking::tracked(s, idle, a.keyed, x, a.state.weighing),
-    )
+    let mut st = a.state;
+    let idle = is_idle_now(st);
+    st.weighing = tracking::tracked(s, idle, a.keyed, x, st.weighing);
+    st
 }
 
 // A finished batch is booked.
@@ -33,7 +30,9 @@ fn after_finish(s: Settings, mut st: State, x: Weights, a: Advanced) -> State
         st.totals = totals::booked_totals(st.totals, v);
         return st;
     }
-    with_sequence(st, a.sequence)
+    let sequence = a.sequence;
+    st.sequence = sequence;
+    st
 }
 
 // Step 6, which has nothing to do in stage 00.

@@ -7,6 +7,7 @@ ghost use Rattle.outline.specs.Replies.{unaskedOf, lineTicked};
 ghost use Rattle.outline.specs.Log.{lineOf, requestTick, requestBuffer};
 use types::lines::LineAnswer;
 use types::lines::LineTick;
+use types::machine::Answer;
 use types::machine::Input;
 use types::machine::State;
 use types::requests::Request;
@@ -37,7 +38,19 @@ fn put_received(receive: &mut [u8], command: &[u8]) -> usize
     i + END_BYTES
 }
 
-// A tick without a request has no line, so nothing is replied.
+// Nothing is told and nothing replied.
+fn silent(answer: Answer, state: State) -> LineTick
+    ensures { λ r. ⌜ r ≡ record { told = LineAnswer.Done; length = 0; answer = answer; state = state } ⌝ }
+{
+    LineTick {
+        told: LineAnswer::Done,
+        length: 0,
+        answer,
+        state,
+    }
+}
+
+// A tick without a request has no line.
 fn silent_tick(s: Settings, st: State, count: i32, contact: bool) -> LineTick
     ensures { λ r. ⌜ r ≡ lineTicked LineAnswer.Done 0 (tickOf s st (unaskedOf count contact)) ⌝ }
 {
@@ -50,14 +63,7 @@ fn silent_tick(s: Settings, st: State, count: i32, contact: bool) -> LineTick
             request: Request::Nothing,
         },
     );
-    let answer = ticked.answer;
-    let state = ticked.state;
-    LineTick {
-        told: LineAnswer::Done,
-        length: 0,
-        answer,
-        state,
-    }
+    silent(ticked.answer, ticked.state)
 }
 
 // Any request but none is a serial command, even one that the controller won't know: it comes as it would from the line, with CR LF.

@@ -9,10 +9,6 @@ ghost use Rattle.outline.specs.Setpoints.{setpointsFit};
 ghost use Rattle.outline.specs.Stages.{startSequence, stopSequence};
 ghost use Rattle.outline.specs.Totals.{clearTotals, takenBack};
 ghost use Rattle.outline.specs.Zero.{inZeroRange, zeroedOf, inTareRange, taredOf};
-use parts::with_book;
-use parts::with_sequence;
-use parts::with_totals;
-use parts::with_weighing;
 use rulings::fit_ruling;
 use rulings::idle_ruling;
 use rulings::still_ruling;
@@ -22,7 +18,7 @@ use types::machine::State;
 use types::requests::Outcome;
 use types::requests::Refusal;
 use types::requests::Request;
-use types::settings::Mode;
+use types::settings::Batching;
 use types::settings::Range;
 use types::settings::Settings;
 use types::stages::Setpoints;
@@ -30,10 +26,11 @@ use types::weight::Display;
 use types::weight::Weights;
 
 // ---- rulings of a single row
-fn set_ruling(kept: bool) -> Outcome
-    ensures { λ r. ⌜ r ≡ firstOf (row6 kept ∷ []) ⌝ }
+fn set_ruling(batching: Batching, p: Setpoints) -> Outcome
+    ensures { λ r. ⌜ r ≡ firstOf (row6 (setpointsFit (batching .mode) p) ∷ []) ⌝ }
 {
-    if kept {
+    let mode = batching.mode;
+    if setpoints::setpoints_fit(mode, p) {
         return Outcome::Done;
     }
     Outcome::Refused(Refusal::SetpointRules)
@@ -42,14 +39,12 @@ fn set_ruling(kept: bool) -> Outcome
 fn undo_ruling(st: State) -> Outcome
     ensures { λ r. ⌜ r ≡ firstOf (row7 st ∷ []) ⌝ }
 {
-    let totals = st.totals;
-    if totals::has_none_back(totals) {
+    if totals::has_none_back(st.totals) {
         return Outcome::Refused(Refusal::NothingToTakeBack);
     }
     Outcome::Done
 }
 
-// ---- the state with a part that no other crate makes anew
 // A field that holds an enum is not assigned to: the state is built anew.
 fn with_display(st: State, x: Display) -> State
     ensures { λ r. ⌜ r ≡ withDisplay st x ⌝ }
@@ -71,13 +66,6 @@ fn with_display(st: State, x: Display) -> State
     }
 }
 
-fn with_setpoints(mut st: State, x: Setpoints) -> State
-    ensures { λ r. ⌜ r ≡ withSetpoints st x ⌝ }
-{
-    st.setpoints = x;
-    st
-}
-
 // ---- how a request is settled
 fn done(st: State) -> Settled
     ensures { λ r. ⌜ r ≡ plainly st ⌝ }
@@ -92,14 +80,15 @@ fn done(st: State) -> Settled
 }
 
 // The day ends as step 2 left it.
-fn done_closing(st: State) -> Settled
+fn done_closing(mut st: State) -> Settled
     ensures { λ r. ⌜ r ≡ closing st ⌝ }
 {
     let book = st.book;
     let next = daybook::closed_book(book);
+    st.book = next;
     Settled {
         outcome: Outcome::Done,
-        state: with_book(st, next),
+        state: st,
         held: false,
         keyed: false,
         closed: Closed::Day(book),
@@ -141,94 +130,73 @@ fn settled(o: Outcome, st: State, next: State, held: bool, keyed: bool) -> Settl
 fn ask_zero(range: Range, st: State, x: Weights) -> Settled
     ensures { λ r. ⌜ r ≡ settling (firstOf (row1 x ∷ row2 x ∷ row3 st ∷ row4 x ∷ row5 (inZeroRange range (x .raw)) ∷ [])) st (keying (withWeighing st (zeroedOf (st .weighing) (x .raw)))) ⌝ }
 {
-    let weighing = st.weighing;
-    let ruling = still_ruling(st, x, zero::in_zero_range(range, x.raw));
-    settled(
-        fit_ruling(x, ruling),
-        st,
-        with_weighing(st, zero::zeroed(weighing, x.raw)),
-        false,
-        true,
-    )
+    let ruling = fit_ruling(x, still_ruling(st, x, zero::in_zero_range(range, x.raw)));
+    let mut next = st;
+    next.weighing = zero::zeroed(st.weighing, x.raw);
+    settled(ruling, st, next, false, true)
 }
 
 fn ask_tare(range: Range, st: State, x: Weights) -> Settled
     ensures { λ r. ⌜ r ≡ settling (firstOf (row1 x ∷ row2 x ∷ row3 st ∷ row4 x ∷ row5 (inTareRange range (x .divisions)) ∷ [])) st (plainly (withWeighing st (taredOf (st .weighing) (x .gross)))) ⌝ }
 {
-    let weighing = st.weighing;
-    let ruling = still_ruling(st, x, zero::in_tare_range(range, x.divisions));
-    settled(
-        fit_ruling(x, ruling),
-        st,
-        with_weighing(st, zero::tared(weighing, x.gross)),
-        false,
-        false,
-    )
+    let ruling = fit_ruling(
+        x,
+        still_ruling(st, x, zero::in_tare_range(range, x.divisions)),
+    );
+    let mut next = st;
+    next.weighing = zero::tared(st.weighing, x.gross);
+    settled(ruling, st, next, false, false)
 }
 
 fn ask_tare_clear(st: State) -> Settled
     ensures { λ r. ⌜ r ≡ settling (firstOf (row3 st ∷ [])) st (plainly (withWeighing st (taredOf (st .weighing) (pos 0)))) ⌝ }
 {
-    let weighing = st.weighing;
-    settled(
-        idle_ruling(st, Outcome::Done),
-        st,
-        with_weighing(st, zero::tared(weighing, 0)),
-        false,
-        false,
-    )
+    let ruling = idle_ruling(st, Outcome::Done);
+    let mut next = st;
+    next.weighing = zero::tared(st.weighing, 0);
+    settled(ruling, st, next, false, false)
 }
 
 fn ask_start(st: State, x: Weights) -> Settled
     ensures { λ r. ⌜ r ≡ settling (firstOf (row1 x ∷ row2 x ∷ row3 st ∷ [])) st (holding (withSequence st startSequence)) ⌝ }
 {
     let ruling = fit_ruling(x, idle_ruling(st, Outcome::Done));
-    settled(
-        ruling,
-        st,
-        with_sequence(st, sequence::start_sequence()),
-        true,
-        false,
-    )
+    let mut next = st;
+    next.sequence = sequence::start_sequence();
+    settled(ruling, st, next, true, false)
 }
 
 fn ask_stop(st: State) -> Settled
     ensures { λ r. ⌜ r ≡ holding (withSequence st (stopSequence (st .sequence))) ⌝ }
 {
-    let sequence = st.sequence;
-    settled(
-        Outcome::Done,
-        st,
-        with_sequence(st, sequence::stop_sequence(sequence)),
-        true,
-        false,
-    )
+    let mut next = st;
+    next.sequence = sequence::stop_sequence(st.sequence);
+    settled(Outcome::Done, st, next, true, false)
 }
 
-fn ask_set(mode: Mode, st: State, p: Setpoints) -> Settled
-    ensures { λ r. ⌜ r ≡ settling (firstOf (row3 st ∷ row6 (setpointsFit mode p) ∷ [])) st (plainly (withSetpoints st p)) ⌝ }
+fn ask_set(batching: Batching, st: State, p: Setpoints) -> Settled
+    ensures { λ r. ⌜ r ≡ settling (firstOf (row3 st ∷ row6 (setpointsFit (batching .mode) p) ∷ [])) st (plainly (withSetpoints st p)) ⌝ }
 {
-    let ruling = idle_ruling(st, set_ruling(setpoints::setpoints_fit(mode, p)));
-    settled(ruling, st, with_setpoints(st, p), false, false)
+    let ruling = idle_ruling(st, set_ruling(batching, p));
+    let mut next = st;
+    next.setpoints = p;
+    settled(ruling, st, next, false, false)
 }
 
-fn ask_total_clear(st: State) -> Settled
+fn ask_total_clear(mut st: State) -> Settled
     ensures { λ r. ⌜ r ≡ plainly (withTotals st clearTotals) ⌝ }
 {
-    done(with_totals(st, totals::clear_totals()))
+    st.totals = totals::clear_totals();
+    done(st)
 }
 
 fn ask_undo(st: State) -> Settled
     ensures { λ r. ⌜ r ≡ settling (firstOf (row7 st ∷ [])) st (plainly (withTotals st (takenBack (st .totals)))) ⌝ }
 {
-    let totals = st.totals;
-    settled(
-        undo_ruling(st),
-        st,
-        with_totals(st, totals::take_back(totals)),
-        false,
-        false,
-    )
+    let ruling = undo_ruling(st);
+    let mut next = st;
+    next.totals = totals::take_back(st.totals);
+    settled(ruling, st, next, false, false)
 }
 
 fn show(st: State, d: Display) -> Settled
@@ -250,21 +218,18 @@ fn ask_day_close(st: State, x: Weights) -> Settled
 pub fn settle(s: Settings, st: State, x: Weights, r: Request) -> Settled
     ensures { λ a. ⌜ a ≡ settledBy s st x r ⌝ }
 {
-    let range = s.range;
-    let batching = s.batching;
-    let mode = batching.mode;
     match r {
-        Request::Nothing => done(st),
-        Request::Zero => ask_zero(range, st, x),
-        Request::Tare => ask_tare(range, st, x),
-        Request::TareClear => ask_tare_clear(st),
-        Request::Start => ask_start(st, x),
-        Request::Stop => ask_stop(st),
-        Request::Set(p) => ask_set(mode, st, p),
-        Request::TotalClear => ask_total_clear(st),
-        Request::Undo => ask_undo(st),
-        Request::ShowGross => show(st, Display::Gross),
-        Request::ShowNet => show(st, Display::Net),
-        Request::DayClose => ask_day_close(st, x),
+        Request::Nothing => return done(st),
+        Request::Zero => return ask_zero(s.range, st, x),
+        Request::Tare => return ask_tare(s.range, st, x),
+        Request::TareClear => return ask_tare_clear(st),
+        Request::Start => return ask_start(st, x),
+        Request::Stop => return ask_stop(st),
+        Request::Set(p) => return ask_set(s.batching, st, p),
+        Request::TotalClear => return ask_total_clear(st),
+        Request::Undo => return ask_undo(st),
+        Request::ShowGross => return show(st, Display::Gross),
+        Request::ShowNet => return show(st, Display::Net),
+        Request::DayClose => return ask_day_close(st, x),
     }
 }

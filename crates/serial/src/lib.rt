@@ -10,17 +10,15 @@ use types::lines::Command;
 use types::lines::LineAnswer;
 use types::lines::LineTick;
 use types::lines::Reply;
+use types::machine::Answer;
 use types::machine::Input;
 use types::machine::State;
-use types::machine::Ticked;
 use types::requests::Request;
 use types::settings::Settings;
 
-fn with_line(told: LineAnswer, length: usize, tick: Ticked) -> LineTick
-    ensures { λ r. ⌜ r ≡ lineTicked told length tick ⌝ }
+fn with_line(told: LineAnswer, length: usize, answer: Answer, state: State) -> LineTick
+    ensures { λ r. ⌜ r ≡ record { told = told; length = length; answer = answer; state = state } ⌝ }
 {
-    let answer = tick.answer;
-    let state = tick.state;
     LineTick {
         told,
         length,
@@ -49,9 +47,7 @@ fn half_asked(s: Settings, st: State, count: i32, contact: bool, command: Comman
 fn due_after(command: Command, half: Halfway) -> Reply
     ensures { λ r. ⌜ r ≡ replyDue command (half .settled) (half .weights) ⌝ }
 {
-    let settled = half.settled;
-    let weights = half.weights;
-    due::reply_due(command, settled, weights)
+    due::reply_due(command, half.settled, half.weights)
 }
 
 // The reply is written, so the tick goes on with what was asked for.
@@ -60,11 +56,9 @@ fn finished(s: Settings, command: Command, half: Halfway, length: usize) -> Line
 {
     let settled = half.settled;
     let outcome = settled.outcome;
-    with_line(
-        told::told_of(command, outcome),
-        length,
-        halves::finish_tick(s, half),
-    )
+    let told = told::told_of(command, outcome);
+    let ticked = halves::finish_tick(s, half);
+    with_line(told, length, ticked.answer, ticked.state)
 }
 
 // The reply did not fit, so the tick is run anew as one without a request.
@@ -80,7 +74,7 @@ fn unasked(s: Settings, st: State, count: i32, contact: bool) -> LineTick
             request: Request::Nothing,
         },
     );
-    with_line(LineAnswer::ShortBuffer, 0, ticked)
+    with_line(LineAnswer::ShortBuffer, 0, ticked.answer, ticked.state)
 }
 
 pub fn line_tick(
@@ -94,11 +88,11 @@ pub fn line_tick(
     ensures answer { λ r. ⌜ r ≡ lineTickOf s st count contact (now (receive .entry)) (now (reply .entry)) ⌝ }
     ensures bytes { λ r. ⌜ now (reply .exit) ≡ replyBuffer s st count contact (now (receive .entry)) (now (reply .entry)) ⌝ }
 {
-    let address = s.address;
-    let command = commands::command_of(receive, address);
+    let command = commands::command_of(receive, s.address);
     let half = half_asked(s, st, count, contact, command);
-    match replies::write_reply(reply, address, due_after(command, half)) {
-        Wrote::Bytes(length) => finished(s, command, half, length),
-        Wrote::Short => unasked(s, st, count, contact),
+    let due = due_after(command, half);
+    match replies::write_reply(reply, s.address, due) {
+        Wrote::Bytes(length) => return finished(s, command, half, length),
+        Wrote::Short => return unasked(s, st, count, contact),
     }
 }

@@ -26,12 +26,9 @@ returns c =
       v .before .before .if1 .taken,
     )
 
-with-sequence-requires : tie.Need-with-sequence-requires
-with-sequence-requires c κs = search needs
-
 returns-2 : tie.Need-returns-2
 unfolding finishedOf
-returns-2 c = simp (c .with-sequence .ensures, c .before .if1 .left)
+returns-2 c = simp (c .before .if1 .left)
 
 pub after-finish-spec : {M : Type 1} → statement M
 after-finish-spec =
@@ -41,5 +38,4 @@ after-finish-spec =
     booked-sequence-requires
     booked-totals-requires
     returns
-    with-sequence-requires
     returns-2)

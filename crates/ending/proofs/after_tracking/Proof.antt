@@ -10,13 +10,10 @@ is-idle-now-requires c κs = search needs
 tracked-requires : tie.Need-tracked-requires
 tracked-requires c κs = search needs
 
-with-weighing-requires : tie.Need-with-weighing-requires
-with-weighing-requires c κs = search needs
-
 returns : tie.Need-returns
 unfolding withTracking
-returns c = simp (c .with-weighing .ensures, c .before .tracked .ensures, ← c .before .before .is-idle-now .ensures)
+returns c = simp (c .tracked .ensures, ← c .before .is-idle-now .ensures)
 
 pub after-tracking-spec : {M : Type 1} → statement M
 after-tracking-spec =
-    tie.close (tie.spec is-idle-now-requires tracked-requires with-weighing-requires returns)
+    tie.close (tie.spec is-idle-now-requires tracked-requires returns)

@@ -7,8 +7,11 @@ use Rattle.logticks.proofs.silent_tick.Tie as tie
 tick-requires : tie.Need-tick-requires
 tick-requires c κs = search needs
 
+silent-requires : tie.Need-silent-requires
+silent-requires c κs = search needs
+
 returns : tie.Need-returns
-returns c = simp (c .before .before .tick .ensures, toZ-ofZ (c .before .before .before .fits .count))
+returns c = simp (c .silent .ensures, c .before .tick .ensures, toZ-ofZ (c .before .before .fits .count))
 
 pub silent-tick-spec : {M : Type 1} → statement M
-silent-tick-spec = tie.close (tie.spec tick-requires returns)
+silent-tick-spec = tie.close (tie.spec tick-requires silent-requires returns)

@@ -3,31 +3,23 @@ use borrow.Author.Needs.{needs}
 use Rattle.requests.proofs.ask_set.Statement.{statement}
 use Rattle.requests.proofs.ask_set.Tie as tie
 
-setpoints-fit-requires : tie.Need-setpoints-fit-requires
-setpoints-fit-requires c κs = search needs
-
 set-ruling-requires : tie.Need-set-ruling-requires
 set-ruling-requires c κs = search needs
 
 idle-ruling-requires : tie.Need-idle-ruling-requires
 idle-ruling-requires c κs = search needs
 
-with-setpoints-requires : tie.Need-with-setpoints-requires
-with-setpoints-requires c κs = search needs
-
 settled-requires : tie.Need-settled-requires
 settled-requires c κs = search needs
 
 returns : tie.Need-returns
-returns c = simp (c .settled .ensures, c .before .with-setpoints .ensures, c .before .before .idle-ruling .ensures, c .before .before .before .set-ruling .ensures, ← c .before .before .before .before .setpoints-fit .ensures)
+returns c = simp (c .settled .ensures, c .before .idle-ruling .ensures, c .before .before .set-ruling .ensures)
 
 pub ask-set-spec : {M : Type 1} → statement M
 ask-set-spec =
     tie.close
     (tie.spec
-    setpoints-fit-requires
     set-ruling-requires
     idle-ruling-requires
-    with-setpoints-requires
     settled-requires
     returns)

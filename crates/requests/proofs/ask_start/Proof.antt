@@ -12,14 +12,11 @@ fit-ruling-requires c κs = search needs
 start-sequence-requires : tie.Need-start-sequence-requires
 start-sequence-requires c κs = search needs
 
-with-sequence-requires : tie.Need-with-sequence-requires
-with-sequence-requires c κs = search needs
-
 settled-requires : tie.Need-settled-requires
 settled-requires c κs = search needs
 
 returns : tie.Need-returns
-returns c = simp (c .settled .ensures, c .before .with-sequence .ensures, c .before .before .start-sequence .ensures, c .before .before .before .fit-ruling .ensures, c .before .before .before .before .idle-ruling .ensures)
+returns c = simp (c .settled .ensures, c .before .start-sequence .ensures, c .before .before .fit-ruling .ensures, c .before .before .before .idle-ruling .ensures)
 
 pub ask-start-spec : {M : Type 1} → statement M
 ask-start-spec =
@@ -28,6 +25,5 @@ ask-start-spec =
     idle-ruling-requires
     fit-ruling-requires
     start-sequence-requires
-    with-sequence-requires
     settled-requires
     returns)

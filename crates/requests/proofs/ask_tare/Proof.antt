@@ -8,10 +8,10 @@ use Rattle.requests.proofs.ask_tare.Statement.{statement}
 use Rattle.requests.proofs.ask_tare.Tie as tie
 
 -- the fields of x are told in the order that they are declared in: divisions is the fifth, gross the sixth
-divisions : (c : tie.After-struct-told) → SFits w64 (c .before .before .args .x .divisions)
+divisions : (c : tie.After-struct-told) → SFits w64 (c .before .args .x .divisions)
 divisions c = sfits-of (c .struct-told .given .1 .1 .1 .1 .0 .1)
 
-gross : (c : tie.After-struct-told) → SFits w32 (c .before .before .args .x .gross)
+gross : (c : tie.After-struct-told) → SFits w32 (c .before .args .x .gross)
 gross c = sfits-of (c .struct-told .given .1 .1 .1 .1 .1 .0 .1)
 
 in-tare-range-requires : tie.Need-in-tare-range-requires
@@ -26,19 +26,15 @@ fit-ruling-requires c κs = search needs
 tared-requires : tie.Need-tared-requires
 tared-requires c κs = search needs
 
-with-weighing-requires : tie.Need-with-weighing-requires
-with-weighing-requires c κs = search needs
-
 settled-requires : tie.Need-settled-requires
 settled-requires c κs = search needs
 
 returns : tie.Need-returns
 returns c =
-    let t = c .before .before in
+    let t = c .before in
     let r = t .before .before in
     simp (
       c .settled .ensures,
-      c .before .with-weighing .ensures,
       t .tared .ensures,
       r .fit-ruling .ensures,
       r .before .still-ruling .ensures,
@@ -55,6 +51,5 @@ ask-tare-spec =
     still-ruling-requires
     fit-ruling-requires
     tared-requires
-    with-weighing-requires
     settled-requires
     returns)

@@ -9,14 +9,11 @@ idle-ruling-requires c κs = search needs
 tared-requires : tie.Need-tared-requires
 tared-requires c κs = search needs
 
-with-weighing-requires : tie.Need-with-weighing-requires
-with-weighing-requires c κs = search needs
-
 settled-requires : tie.Need-settled-requires
 settled-requires c κs = search needs
 
 returns : tie.Need-returns
-returns c = simp (c .settled .ensures, c .before .with-weighing .ensures, c .before .before .tared .ensures, c .before .before .before .idle-ruling .ensures)
+returns c = simp (c .settled .ensures, c .before .tared .ensures, c .before .before .idle-ruling .ensures)
 
 pub ask-tare-clear-spec : {M : Type 1} → statement M
 ask-tare-clear-spec =
@@ -24,6 +21,5 @@ ask-tare-clear-spec =
     (tie.spec
     idle-ruling-requires
     tared-requires
-    with-weighing-requires
     settled-requires
     returns)

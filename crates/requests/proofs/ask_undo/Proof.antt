@@ -9,14 +9,11 @@ undo-ruling-requires c κs = search needs
 take-back-requires : tie.Need-take-back-requires
 take-back-requires c κs = search needs
 
-with-totals-requires : tie.Need-with-totals-requires
-with-totals-requires c κs = search needs
-
 settled-requires : tie.Need-settled-requires
 settled-requires c κs = search needs
 
 returns : tie.Need-returns
-returns c = simp (c .settled .ensures, c .before .with-totals .ensures, c .before .before .take-back .ensures, c .before .before .before .undo-ruling .ensures)
+returns c = simp (c .settled .ensures, c .before .take-back .ensures, c .before .before .undo-ruling .ensures)
 
 pub ask-undo-spec : {M : Type 1} → statement M
 ask-undo-spec =
@@ -24,6 +21,5 @@ ask-undo-spec =
     (tie.spec
     undo-ruling-requires
     take-back-requires
-    with-totals-requires
     settled-requires
     returns)

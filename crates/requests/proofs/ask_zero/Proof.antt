@@ -22,24 +22,20 @@ fit-ruling-requires c κs = search needs
 zeroed-requires : tie.Need-zeroed-requires
 zeroed-requires c κs = search needs
 
-with-weighing-requires : tie.Need-with-weighing-requires
-with-weighing-requires c κs = search needs
-
 settled-requires : tie.Need-settled-requires
 settled-requires c κs = search needs
 
 returns : tie.Need-returns
 returns c =
-    let z = c .before .before in
+    let z = c .before in
     let r = z .before .before in
     simp (
       c .settled .ensures,
-      c .before .with-weighing .ensures,
       z .zeroed .ensures,
       r .fit-ruling .ensures,
       r .before .still-ruling .ensures,
       r .before .before .in-zero-range .ensures,
-      toZ-ofZ (raw (r .before .before .before .before .before)),
+      toZ-ofZ (raw (r .before .before .before .before)),
     )
 
 pub ask-zero-spec : {M : Type 1} → statement M
@@ -50,6 +46,5 @@ ask-zero-spec =
     still-ruling-requires
     fit-ruling-requires
     zeroed-requires
-    with-weighing-requires
     settled-requires
     returns)

@@ -6,11 +6,8 @@ use Rattle.requests.proofs.done_closing.Tie as tie
 closed-book-requires : tie.Need-closed-book-requires
 closed-book-requires c κs = search needs
 
-with-book-requires : tie.Need-with-book-requires
-with-book-requires c κs = search needs
-
 returns : tie.Need-returns
-returns c = simp (c .with-book .ensures, c .before .closed-book .ensures)
+returns c = simp (c .closed-book .ensures)
 
 pub done-closing-spec : {M : Type 1} → statement M
-done-closing-spec = tie.close (tie.spec closed-book-requires with-book-requires returns)
+done-closing-spec = tie.close (tie.spec closed-book-requires returns)

@@ -130,37 +130,37 @@ settle-spec =
     (tie.spec
     enum-told
     done-requires
+    returns
     enum-told-2
     ask-zero-requires
+    returns-2
     enum-told-3
     ask-tare-requires
+    returns-3
     enum-told-4
     ask-tare-clear-requires
+    returns-4
     enum-told-5
     ask-start-requires
+    returns-5
     enum-told-6
     ask-stop-requires
+    returns-6
     enum-known-r
     ask-set-requires
+    returns-7
     enum-told-7
     ask-total-clear-requires
+    returns-8
     enum-told-8
     ask-undo-requires
+    returns-9
     enum-told-9
     show-requires
+    returns-10
     enum-told-10
     show-requires-2
+    returns-11
     enum-told-11
     ask-day-close-requires
-    returns
-    returns-2
-    returns-3
-    returns-4
-    returns-5
-    returns-6
-    returns-7
-    returns-8
-    returns-9
-    returns-10
-    returns-11
     returns-12)

@@ -24,12 +24,6 @@ enum-known-length c = search needs
 finished-requires : tie.Need-finished-requires
 finished-requires c κs = search needs
 
-enum-told : tie.Need-enum-told
-enum-told c = search needs
-
-unasked-requires : tie.Need-unasked-requires
-unasked-requires c κs = search needs
-
 same-length : tie.Need-same-length
 same-length c = search needs
 
@@ -41,8 +35,14 @@ returns c =
     let a = start .args in
     let asked = simp (toZ-ofZ (start .fits .count)) at (h .half-asked .ensures) in
     fitted (a .s) (a .st) (a .count) (a .contact) (now (a .receive)) (now (a .reply)) _ _ _ _ _ (h .before .command-of .ensures) asked
-    (w .before .due-after .ensures) (w .write-reply .ensures .0) (w .write-reply .ensures .1)
+    (w .before .before .due-after .ensures) (w .write-reply .ensures .0) (w .write-reply .ensures .1)
     _ (c .before .before .length .given .1) _ (c .finished .ensures)
+
+enum-told : tie.Need-enum-told
+enum-told c = search needs
+
+unasked-requires : tie.Need-unasked-requires
+unasked-requires c κs = search needs
 
 same-length-2 : tie.Need-same-length-2
 same-length-2 c = search needs
@@ -55,7 +55,7 @@ returns-2 c =
     let a = start .args in
     let asked = simp (toZ-ofZ (start .fits .count)) at (h .half-asked .ensures) in
     short (a .s) (a .st) (a .count) (a .contact) (now (a .receive)) (now (a .reply)) _ _ _ _ _ (h .before .command-of .ensures) asked
-    (w .before .due-after .ensures) (w .write-reply .ensures .0) (w .write-reply .ensures .1)
+    (w .before .before .due-after .ensures) (w .write-reply .ensures .0) (w .write-reply .ensures .1)
     (c .before .enum-told .given .1) _ (simp (toZ-ofZ (start .fits .count)) at (c .unasked .ensures))
 
 pub line-tick-spec : {M : Type 1} → statement M
@@ -68,9 +68,9 @@ line-tick-spec =
     write-reply-requires
     enum-known-length
     finished-requires
-    enum-told
-    unasked-requires
     same-length
     returns
+    enum-told
+    unasked-requires
     same-length-2
     returns-2)
