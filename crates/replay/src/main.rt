@@ -5,9 +5,6 @@
 // length of the reply buffer (64 without it).
 ghost use Prim.Native.Nat.{_≤_};
 use crate::given::GivenLine;
-use crate::shown::put_tick;
-use crate::text::flushed;
-use crate::text::written;
 use libc::STDERR_FILENO;
 use libc::STDOUT_FILENO;
 use logticks::request_tick;
@@ -15,6 +12,10 @@ use numerals::number_at;
 use opening::open;
 use opening::open_state;
 use pieces::part;
+use printout::put_opened;
+use printout::put_refused;
+use printout::put_tick;
+use printout::written;
 use reader::Line;
 use reader::first_line;
 use reader::next_line;
@@ -24,22 +25,14 @@ use types::settings::Opening;
 use types::settings::Settings;
 
 mod given;
-mod number;
-mod shown;
-mod text;
 
 // The longest reply buffer.
 const REPLY_LIMIT: usize = 64;
 
-fn put_refused(out: &mut [u8], at: usize, number: u64) -> usize {
-    let end = text::put_count(out, at, b"refused=", number);
-    text::put_byte(out, end, 10)
-}
-
 // A line is there and could not be read, or the log has ended.
 fn put_end(out: &mut [u8], at: usize, line: Line) -> usize {
     if line.here {
-        return put_refused(out, flushed(out, at), line.number);
+        return put_refused(out, at, line.number);
     }
     at
 }
@@ -54,7 +47,7 @@ fn request_in(space: &[u8], line: Line) -> &[u8] {
 // from a number that no run uses up.
 fn run_ticks(s: Settings, first: Line, space: &mut [u8], reply: &mut [u8]) {
     let mut out = io::large_buffer();
-    let mut at = text::put(&mut out, 0, b"answer=0\n");
+    let mut at = put_opened(&mut out);
     let mut state = open_state();
     let mut line = next_line(first, space);
     let mut turns = u64::MAX;
@@ -114,6 +107,10 @@ enum Room {
     Wrong,
 }
 
+fn wide(n: i32) -> i64 {
+    n as i64
+}
+
 fn room_at(word: &[u8], n: i32, end: usize) -> Room {
     if word.len() != end {
         return Room::Wrong;
@@ -121,7 +118,7 @@ fn room_at(word: &[u8], n: i32, end: usize) -> Room {
     if n < 0 {
         return Room::Wrong;
     }
-    let bytes = whole::magnitude(text::wide(n));
+    let bytes = whole::magnitude(wide(n));
     if 64 < bytes {
         return Room::Wrong;
     }

@@ -65,7 +65,7 @@ fn finished(s: Settings, command: Command, half: Halfway, length: usize) -> Line
 fn unasked(s: Settings, st: State, count: i32, contact: bool) -> LineTick
     ensures { λ r. ⌜ r ≡ lineTicked LineAnswer.ShortBuffer 0 (tickOf s st (unaskedOf count contact)) ⌝ }
 {
-    let ticked = controller::tick(
+    let half = halves::half_tick(
         s,
         st,
         Input {
@@ -74,6 +74,7 @@ fn unasked(s: Settings, st: State, count: i32, contact: bool) -> LineTick
             request: Request::Nothing,
         },
     );
+    let ticked = halves::finish_tick(s, half);
     with_line(LineAnswer::ShortBuffer, 0, ticked.answer, ticked.state)
 }
 

@@ -15,14 +15,11 @@ abbrev μ-loop : tie.MeasureT-loop
 large-buffer-requires : tie.Need-large-buffer-requires Inv-loop μ-loop
 large-buffer-requires c κs = search needs
 
-slice-aggregate-put : tie.Need-slice-aggregate-put Inv-loop μ-loop
-slice-aggregate-put c = search needs
+slice-aggregate-put-opened : tie.Need-slice-aggregate-put-opened Inv-loop μ-loop
+slice-aggregate-put-opened c = search needs
 
-slice-aggregate-put-2 : tie.Need-slice-aggregate-put-2 Inv-loop μ-loop
-slice-aggregate-put-2 c = search needs
-
-put-requires : tie.Need-put-requires Inv-loop μ-loop
-put-requires c κs = search needs
+put-opened-requires : tie.Need-put-opened-requires Inv-loop μ-loop
+put-opened-requires c κs = search needs
 
 open-state-requires : tie.Need-open-state-requires Inv-loop μ-loop
 open-state-requires c κs = search needs
@@ -88,9 +85,8 @@ run-ticks-spec =
     Inv-loop
     μ-loop
     large-buffer-requires
-    slice-aggregate-put
-    slice-aggregate-put-2
-    put-requires
+    slice-aggregate-put-opened
+    put-opened-requires
     open-state-requires
     next-line-requires
     loop-holds

@@ -2,8 +2,8 @@
 use borrow.Author.Needs.{needs}
 use Rattle.whole.specs.Bits.{arg, cast-need}
 use Rattle.whole.specs.Machine.{wider}
-use Rattle.replay.proofs.text.wide.Statement.{statement}
-use Rattle.replay.proofs.text.wide.Tie as tie
+use Rattle.printout.proofs.text.wide.Statement.{statement}
+use Rattle.printout.proofs.text.wide.Tie as tie
 
 cast-result : tie.Need-cast-result
 cast-result c = cast-need (arg (c .fits .n)) (wider (c .fits .n))

@@ -3,8 +3,8 @@ use Prim.Native.Nat.{_-_}
 use mathlib.Core.Path.{_≡_}
 use lib.ListN.{length}
 use borrow.Author.Needs.{needs}
-use Rattle.replay.proofs.text.put_hex.Statement.{statement}
-use Rattle.replay.proofs.text.put_hex.Tie as tie
+use Rattle.printout.proofs.text.put_hex.Statement.{statement}
+use Rattle.printout.proofs.text.put_hex.Tie as tie
 
 abbrev Inv-loop : tie.InvT-loop
 Inv-loop out₀ at key bytes n₀ i₀ out n i = length out ≡ length out₀

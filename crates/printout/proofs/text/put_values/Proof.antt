@@ -3,8 +3,8 @@ use Prim.Native.Nat.{_-_}
 use mathlib.Core.Path.{_≡_}
 use lib.ListN.{length}
 use borrow.Author.Needs.{needs}
-use Rattle.replay.proofs.text.put_values.Statement.{statement}
-use Rattle.replay.proofs.text.put_values.Tie as tie
+use Rattle.printout.proofs.text.put_values.Statement.{statement}
+use Rattle.printout.proofs.text.put_values.Tie as tie
 
 abbrev Inv-loop : tie.InvT-loop
 Inv-loop out₀ at keys values n₀ value₀ i₀ out n value i = length out ≡ length out₀

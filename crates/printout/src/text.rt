@@ -1,27 +1,5 @@
-// Text into the output's buffer, each piece behind the one before. What the buffer has no room for is left out; the program writes the
-// buffer out in time, so that nothing is.
-use libc::STDOUT_FILENO;
-use pieces::part;
-
-// The output is written when fewer bytes than a tick's line may need are left of its buffer.
-const LINE_ROOM: usize = 1_024;
-
-pub(crate) fn written(out: &[u8], at: usize) -> usize {
-    io::write_all(STDOUT_FILENO, part(out, 0, at));
-    0
-}
-
-// Writes the output out where a line may not find room behind it.
-pub(crate) fn flushed(out: &[u8], at: usize) -> usize {
-    if out.len() < LINE_ROOM {
-        return 0;
-    }
-    if at <= out.len() - LINE_ROOM {
-        return at;
-    }
-    written(out, at)
-}
-
+// Text into the output's buffer, each piece behind the one before. What the buffer has no room for is left out; the
+// buffer is written out in time, so that nothing is.
 pub(crate) fn put_byte(out: &mut [u8], at: usize, byte: u8) -> usize {
     if at < out.len() {
         out[at] = byte;

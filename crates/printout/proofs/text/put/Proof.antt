@@ -3,8 +3,8 @@ use Prim.Native.Nat.{_-_}
 use mathlib.Core.Path.{_≡_}
 use lib.ListN.{length}
 use borrow.Author.Needs.{needs}
-use Rattle.replay.proofs.text.put.Statement.{statement}
-use Rattle.replay.proofs.text.put.Tie as tie
+use Rattle.printout.proofs.text.put.Statement.{statement}
+use Rattle.printout.proofs.text.put.Tie as tie
 
 abbrev Inv-loop : tie.InvT-loop
 Inv-loop out₀ at text n₀ i₀ out n i = length out ≡ length out₀

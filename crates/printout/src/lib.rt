@@ -1,9 +1,10 @@
-// A tick's line: its outputs, then the state after it.
+// What replay prints: the opening's answer, a line for each tick with its outputs and the state after it, and the line that could not be
+// read. It is a crate apart so that it is proved beside the machine. Like the program it promises no text, only that it ends and
+// never fails, whatever it is given; the text is held to stored outputs and to the peer's.
 use crate::number::error_number;
 use crate::number::stage_number;
 use crate::number::told_number;
 use crate::text::flag;
-use crate::text::flushed;
 use crate::text::put;
 use crate::text::put_bits;
 use crate::text::put_byte;
@@ -13,6 +14,7 @@ use crate::text::put_two;
 use crate::text::put_values;
 use crate::text::small;
 use crate::text::wide;
+use libc::STDOUT_FILENO;
 use pieces::part;
 use types::analog::Analog;
 use types::daybook::Book;
@@ -26,6 +28,40 @@ use types::stages::SequenceError;
 use types::stages::Setpoints;
 use types::stages::Totals;
 use types::weight::Weighing;
+
+mod number;
+mod text;
+
+// Writes the output out, and tells where the next begins.
+pub fn written(out: &[u8], at: usize) -> usize {
+    io::write_all(STDOUT_FILENO, part(out, 0, at));
+    0
+}
+
+// The output is written when fewer bytes than a tick's line may need are left of its buffer.
+const LINE_ROOM: usize = 1_024;
+
+fn flushed(out: &[u8], at: usize) -> usize {
+    if out.len() < LINE_ROOM {
+        return 0;
+    }
+    if at <= out.len() - LINE_ROOM {
+        return at;
+    }
+    written(out, at)
+}
+
+// The settings are accepted.
+pub fn put_opened(out: &mut [u8]) -> usize {
+    put(out, 0, b"answer=0\n")
+}
+
+// The line with this number can't be read.
+pub fn put_refused(out: &mut [u8], at: usize, number: u64) -> usize {
+    let at = flushed(out, at);
+    let at = put_count(out, at, b"refused=", number);
+    put_byte(out, at, 10)
+}
 
 fn put_reading(out: &mut [u8], at: usize, x: Reading) -> usize {
     let values = [
@@ -52,10 +88,10 @@ fn put_gates(out: &mut [u8], at: usize, g: Gates) -> usize {
 
 fn put_judgement(out: &mut [u8], at: usize, j: Judgement) -> usize {
     match j {
-        Judgement::None => put(out, at, b" judgement=none"),
-        Judgement::Ok => put(out, at, b" judgement=ok"),
-        Judgement::Over => put(out, at, b" judgement=over"),
-        Judgement::Under => put(out, at, b" judgement=under"),
+        Judgement::None => return put(out, at, b" judgement=none"),
+        Judgement::Ok => return put(out, at, b" judgement=ok"),
+        Judgement::Over => return put(out, at, b" judgement=over"),
+        Judgement::Under => return put(out, at, b" judgement=under"),
     }
 }
 
@@ -129,8 +165,8 @@ fn put_state(out: &mut [u8], at: usize, st: State) -> usize {
     put_byte(out, at, 10)
 }
 
-// The reply's bytes are the first of its buffer.
-pub(crate) fn put_tick(out: &mut [u8], at: usize, t: LineTick, reply: &[u8]) -> usize {
+// The output so far is written out where a line may not find room behind it. The reply's bytes are the first of its buffer.
+pub fn put_tick(out: &mut [u8], at: usize, t: LineTick, reply: &[u8]) -> usize {
     let told = t.told;
     let at = flushed(out, at);
     let at = put_count(out, at, b"answer=", told_number(told) as u64);

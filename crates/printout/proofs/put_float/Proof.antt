@@ -4,8 +4,8 @@ use mathlib.Core.Path.{_≡_, subst}
 use mathlib.Core.Bool.{true, false, not}
 use lib.Dec.{T}
 use lib.Ieee.{Float, nan, inf, fin, ne, eq, isNan}
-use Rattle.replay.proofs.shown.put_float.Statement.{statement}
-use Rattle.replay.proofs.shown.put_float.Tie as tie
+use Rattle.printout.proofs.put_float.Statement.{statement}
+use Rattle.printout.proofs.put_float.Tie as tie
 
 no-nan : (x : Float) → ne x x ≡ false → T (not (isNan x))
 unfolding ne eq isNan
