@@ -1,18 +1,22 @@
 // Step 6: the flow clock, the errors that end a batch, and the move that its stage makes.
 ghost use mathlib.Core.Path.{_≡_};
 ghost use mathlib.Core.Bool.{cond};
-ghost use Rattle.outline.specs.Stages.{flowingOf, lateOf, clockOf, landOf, advanceOf};
-use sequence::failed;
-use sequence::is_idle;
-use stages::moved;
+ghost use Rattle.outline.specs.Stages.{factsAt, flowingOf, lateOf, clockOf, landOf, advanceOf};
+use crate::sequence::failed;
+use crate::sequence::is_idle;
+use crate::stages::moved;
 use types::settings::Batching;
 use types::stages::Advanced;
-use types::stages::Facts;
 use types::stages::Move;
 use types::stages::Sequence;
 use types::stages::SequenceError;
 use types::stages::Setpoints;
 use types::stages::Stage;
+
+pub mod comparison;
+pub mod gates;
+pub mod sequence;
+mod stages;
 
 // 04 to 11, where the flow clock runs.
 fn is_flowing(stage: Stage) -> bool
@@ -90,9 +94,16 @@ fn landed(q: Sequence, clock: u16, m: Move) -> Advanced
     }
 }
 
-// Step 6: error 9, then error 6, then the stage.
-pub fn advance(b: Batching, p: Setpoints, q: Sequence, f: Facts) -> Advanced
-    ensures { λ r. ⌜ r ≡ advanceOf b p q f ⌝ }
+// Step 6: error 9, then error 6, then the stage. `unfit` is a bad or overloaded tick, v the compared weight.
+pub fn advance(
+    b: Batching,
+    p: Setpoints,
+    q: Sequence,
+    unfit: bool,
+    stable: bool,
+    v: i64,
+) -> Advanced
+    ensures { λ r. ⌜ r ≡ advanceOf b p q (factsAt p unfit stable v) ⌝ }
 {
     let stage = q.stage;
     if is_idle(stage) {
@@ -102,7 +113,7 @@ pub fn advance(b: Batching, p: Setpoints, q: Sequence, f: Facts) -> Advanced
         };
     }
     let late = is_late(b, q);
-    if f.unfit {
+    if unfit {
         return Advanced {
             sequence: failed(q, SequenceError::BadWeight),
             finished: false,
@@ -114,5 +125,5 @@ pub fn advance(b: Batching, p: Setpoints, q: Sequence, f: Facts) -> Advanced
             finished: false,
         };
     }
-    landed(q, clock_after(b, q), moved(b, p, stage, f))
+    landed(q, clock_after(b, q), moved(b, p, stage, unfit, stable, v))
 }

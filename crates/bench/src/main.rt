@@ -1,117 +1,30 @@
-// The controller's benchmark: what a tick costs, not whether it is right. It reads blocks of 4,096 counts from standard input and
-// takes them in turn as idle ticks, as a running batch and as idle ticks again, which are busy tracking where the counts lie
-// near zero. At the end of the input it prints the ticks done and a digest of the last state.
+// The controller's benchmark: what a tick costs, not whether it is right. Its input picks one of four modes and has every number that the
+// controller is given (input.rt), so that neither this compiler nor the peer's knows any of them. At the end it prints the ticks
+// done, a digest of the last state, and one of all outputs, which the peer's side (peer/bench.c) must print too.
 //
-// A count is three bytes, the least first.
-use blocks::run_block;
-use controller::tick;
+// A round is three blocks of counts. Before a block the modes 1 and 2 have a tick with a request: the setpoints, a start, a stop.
+use crate::digest::Seen;
+use crate::input::Head;
+use crate::modes::Run;
+use crate::modes::asked_ticks;
+use crate::modes::block_ticks;
+use crate::modes::line_ticks;
+use crate::modes::unasked_ticks;
+use controller::opening::open;
+use controller::opening::open_state;
 use libc::STDIN_FILENO;
 use libc::STDOUT_FILENO;
-use opening::open;
-use opening::open_state;
-use types::machine::Input;
-use types::machine::State;
 use types::requests::Request;
-use types::settings::Given;
 use types::settings::Opening;
 use types::settings::Settings;
 use types::stages::Setpoints;
 
 mod digest;
+mod input;
+mod modes;
 
-// The counts of a block, and its bytes.
-const BLOCK: usize = 4_096;
-
-const BLOCK_BYTES: usize = 12_288;
-
-// Settings A of the outline, with tracking at every stable tick and the widest allowance, so that it stays busy.
-fn given() -> Given {
-    Given {
-        zero: 0,
-        span: 100_000,
-        capacity: 10_000,
-        weight: 10_000,
-        division: 1,
-        zeroing: 2,
-        tracktime: 1,
-        trackwidth: 45,
-        allowance: 10_000,
-        stabletime: 10,
-        stablewidth: 9,
-        mode: 1,
-        start: 0,
-        large: 0,
-        medium: 0,
-        small: 0,
-        judge: 0,
-        flow: 6_000,
-        address: 0,
-        board: 0,
-        low: 0,
-        high: 10_000,
-    }
-}
-
-// Setpoints that no weight reaches, so that the large flow lasts for a block.
-fn setpoints() -> Setpoints {
-    Setpoints {
-        target: 999_999,
-        fall: 10,
-        preliminary: 100,
-        optional: 1_000,
-        over: 5,
-        under: 5,
-        near: 20,
-    }
-}
-
-// The setpoints before the first of three blocks, a start before the second, a stop before the third.
-fn request_of(turn: u64) -> Request {
-    if turn % 3 == 0 {
-        return Request::Set(setpoints());
-    }
-    if turn % 3 == 1 {
-        return Request::Start;
-    }
-    Request::Stop
-}
-
-// The tick before a block.
-fn prepared(s: Settings, st: State, turn: u64) -> State {
-    let ticked = tick(
-        s,
-        st,
-        Input {
-            count: 0,
-            contact: false,
-            request: request_of(turn),
-        },
-    );
-    ticked.state
-}
-
-fn count_of(a: u8, b: u8, c: u8) -> i32 {
-    ((a as u32) + (b as u32) * 256 + (c as u32) * 65_536) as i32
-}
-
-// The i-th count of a block; 0 past its end.
-fn count_at(bytes: &[u8], i: usize) -> i32 {
-    if BLOCK <= i {
-        return 0;
-    }
-    if bytes.len() < 3 * i + 3 {
-        return 0;
-    }
-    count_of(bytes[3 * i], bytes[3 * i + 1], bytes[3 * i + 2])
-}
-
-fn fill(bytes: &[u8], counts: &mut [i32]) {
-    let mut i = 0;
-    while i < counts.len() {
-        counts[i] = count_at(bytes, i);
-        i += 1;
-    }
-}
+// The blocks of a round.
+const BLOCKS: u64 = 3;
 
 fn print(name: &[u8], n: u64) {
     io::write_all(STDOUT_FILENO, name);
@@ -119,43 +32,97 @@ fn print(name: &[u8], n: u64) {
     io::write_all(STDOUT_FILENO, b"\n");
 }
 
-// Reads one block; false at the end of the input.
-fn read_block(bytes: &mut [u8], counts: &mut [i32]) -> bool {
-    let got = io::read_full(STDIN_FILENO, bytes);
-    if got < BLOCK_BYTES {
-        return false;
+fn unseen() -> Seen {
+    Seen {
+        gross: 0,
+        net: 0,
+        flags: 0,
+        replied: 0,
     }
-    fill(bytes, counts);
-    true
 }
 
-// One block, and the tick before it.
-fn turned(s: Settings, mut st: State, turn: u64, counts: &[i32]) -> State {
-    st = prepared(s, st, turn);
-    let done = run_block(s, st, counts, false);
-    done.state
+// The request before a block.
+fn request_of(block: u64, points: Setpoints) -> Request {
+    if block == 0 {
+        return Request::Set(points);
+    }
+    if block == 1 {
+        return Request::Start;
+    }
+    Request::Stop
 }
 
-// A proved loop has to end, and nothing says that the input does: so the turns are counted, up to a number that no run reaches.
-fn run(s: Settings) {
-    let mut held = open_state();
-    let mut bytes = [0u8; 12_288];
-    let mut counts = [0i32; 4096];
+// Each mode takes the first count once before anything is measured. So the state that a mode begins with is no constant to the
+// compiler; and a function that is called from here and from `turned` is compiled on its own, which the stack is read off.
+fn started(s: Settings, head: Head, bytes: &[u8], reply: &mut [u8]) -> Run {
+    let first = [head.first];
+    let points = head.points;
+    let run = Run {
+        state: open_state(),
+        seen: unseen(),
+        ticks: 0,
+    };
+    let run = block_ticks(s, run, Request::Set(points), &first);
+    let run = unasked_ticks(s, run, Request::Start, &first);
+    let run = asked_ticks(s, run, points, &first);
+    line_ticks(s, run, input::lines(bytes), &first, reply)
+}
+
+// One block in the mode that is asked for.
+fn turned(
+    s: Settings,
+    run: Run,
+    head: Head,
+    block: u64,
+    bytes: &[u8],
+    counts: &[i32],
+    reply: &mut [u8],
+) -> Run {
+    let mode = head.mode;
+    match mode {
+        1 => return block_ticks(s, run, request_of(block, head.points), counts),
+        2 => return unasked_ticks(s, run, request_of(block, head.points), counts),
+        3 => return asked_ticks(s, run, head.points, counts),
+        _ => return line_ticks(s, run, input::lines(bytes), counts, reply),
+    }
+}
+
+fn run_rounds(s: Settings, head: Head, bytes: &[u8], counts: &[i32]) {
+    let mut reply = [0u8; 64];
+    let mut run = started(s, head, bytes, &mut reply);
+    let turns = (head.rounds as u64) * BLOCKS;
     let mut turn: u64 = 0;
-    while turn < 1_000_000_000 {
-        if !read_block(&mut bytes, &mut counts) {
-            break;
-        }
-        held = turned(s, held, turn, &counts);
+    while turn < turns {
+        let block = turn % BLOCKS;
+        run = turned(
+            s,
+            run,
+            head,
+            block,
+            bytes,
+            input::block(counts, block),
+            &mut reply,
+        );
         turn += 1;
     }
-    print(b"ticks=", turn * 4097);
-    print(b"digest=", digest::digest(held));
+    print(b"ticks=", run.ticks);
+    print(b"digest=", digest::of_state(run.state));
+    print(b"outputs=", digest::of_outputs(run.seen, &reply));
+}
+
+fn run_all(s: Settings, bytes: &[u8]) {
+    let mut counts = [0i32; input::COUNTS];
+    input::fill(bytes, &mut counts);
+    let given = input::first_counts(&counts, input::counts_in(bytes));
+    run_rounds(s, input::head_of(bytes), bytes, given);
 }
 
 fn main() {
-    match open(given()) {
-        Opening::Accepted(s) => run(s),
+    let mut space = io::large_buffer();
+    let got = io::read_full(STDIN_FILENO, &mut space);
+    let bytes = &space[..got];
+    match open(input::given(bytes)) {
+        Opening::Accepted(s) => run_all(s, bytes),
         Opening::Refused => print(b"refused=", 10),
     }
 }

@@ -46,7 +46,7 @@ fn decode(letters: Letters, line: &[u8], at: u8) -> Command
         Letters::Set => sized(
             line,
             at as usize + SET_LENGTH,
-            set_of(fields::fields(line, end)),
+            set_of(crate::fields::fields(line, end)),
         ),
         Letters::Other => Command::Unknown,
     }
@@ -62,7 +62,10 @@ pub(crate) fn body(line: &[u8], at: u8) -> Command
     }
     let p = at as usize;
     decode(
-        letters_of(line::byte_at(line, p), line::byte_at(line, p + 1)),
+        letters_of(
+            crate::line::byte_at(line, p),
+            crate::line::byte_at(line, p + 1),
+        ),
         line,
         at,
     )

@@ -5,16 +5,20 @@ use types::lines::Command;
 use types::lines::LineKind;
 
 mod body;
-mod letters;
+pub mod digits;
+mod fields;
+pub mod letters;
+pub mod line;
+pub mod prefix;
 
 // A line too short for a prefix has none, since a byte past its end is neither "@" nor a digit.
 fn is_prefixed(line: &[u8], address: u8) -> bool
     ensures { λ r. ⌜ r ≡ isPrefixed (now (line .entry)) address ⌝ }
 {
     if 0 < address {
-        if line::byte_at(line, 0) == 64 {
-            if line::byte_at(line, 1) == 48 + address / 10 % 10 {
-                line::byte_at(line, 2) == 48 + address % 10
+        if crate::line::byte_at(line, 0) == 64 {
+            if crate::line::byte_at(line, 1) == 48 + address / 10 % 10 {
+                crate::line::byte_at(line, 2) == 48 + address % 10
             } else {
                 false
             }
@@ -31,7 +35,7 @@ fn spoken(line: &[u8], address: u8) -> Command
     ensures { λ r. ⌜ r ≡ spokenOf (now (line .entry)) address ⌝ }
 {
     if is_prefixed(line, address) {
-        body::body(line, prefix::prefix_length(address))
+        body::body(line, crate::prefix::prefix_length(address))
     } else {
         Command::OtherAddress
     }
@@ -41,8 +45,8 @@ fn spoken(line: &[u8], address: u8) -> Command
 pub fn command_of(buffer: &[u8], address: u8) -> Command
     ensures { λ r. ⌜ r ≡ commandOf (now (buffer .entry)) address ⌝ }
 {
-    let command = spoken(line::line_of(buffer), address);
-    match line::kind_of(buffer) {
+    let command = spoken(crate::line::line_of(buffer), address);
+    match crate::line::kind_of(buffer) {
         LineKind::NoLine => Command::NoLine,
         LineKind::Long => Command::LongLine,
         LineKind::Empty => command,

@@ -1,17 +1,130 @@
-// The controller: one tick in the outline's six steps. Settings and state go in by value, and the state comes back; nothing is asked of a
-// caller.
+// The controller: its opening, one tick in the outline's six steps, a block of ticks. Settings and state go in by value, and the state comes
+// back; nothing is asked of a caller. Each step is a call of its section, and assigns the part of the state that it makes: a function that
+// takes the state and gives it back would copy it whole.
 ghost use mathlib.Core.Path.{_≡_};
+ghost use Rattle.outline.specs.Parts.{withDisplay};
 ghost use Rattle.outline.specs.Tick.{tickOf};
-use halves::finish_tick;
-use halves::half_tick;
+use crate::outputs::outputs;
+use types::daybook::Closed;
 use types::machine::Input;
 use types::machine::State;
 use types::machine::Ticked;
+use types::requests::Request;
 use types::settings::Settings;
+use types::weight::Display;
 
-// One tick.
-pub fn tick(s: Settings, st: State, i: Input) -> Ticked
+pub mod block;
+pub mod opening;
+mod outputs;
+pub mod unasked;
+
+// A field that holds an enum is not assigned to: the state is built anew.
+fn with_display(st: State, x: Display) -> State
+    ensures { λ r. ⌜ r ≡ withDisplay st x ⌝ }
+{
+    let book = st.book;
+    let stability = st.stability;
+    let weighing = st.weighing;
+    let setpoints = st.setpoints;
+    let sequence = st.sequence;
+    let totals = st.totals;
+    State {
+        book,
+        stability,
+        weighing,
+        display: x,
+        setpoints,
+        sequence,
+        totals,
+    }
+}
+
+// One tick, in the outline's order. A tick that asks nothing may be had cheaper: `unasked::unasked_tick`.
+pub fn tick(s: Settings, mut st: State, i: Input) -> Ticked
     ensures { λ r. ⌜ r ≡ tickOf s st i ⌝ }
 {
-    finish_tick(s, half_tick(s, st, i))
+    // 1. Count to raw.
+    let raw = weight::raw::raw_of(s.calibration, i.count);
+    // 2. Day book. The stability comes before it: its change of raw is from the last good raw as it was before this tick.
+    st.stability = weight::stability::steadied(s.steadiness, st.stability, st.book.last, raw);
+    st.book = daybook::book_tick(st.book, raw, i.contact);
+    // 3. Gross, overload, stability.
+    let x = weight::weigh(s, st.stability, st.weighing, raw, i.contact);
+    // 4. The tick's request. What is done of it changes one part of the state.
+    let request = i.request;
+    let batching = s.batching;
+    let mode = batching.mode;
+    let outcome = requests::ruling(s.range, mode, st.sequence, st.totals, x, request);
+    let done = requests::granted(outcome, request);
+    let mut held = false;
+    let mut keyed = false;
+    let mut closed = Closed::Nothing;
+    match done {
+        Request::Nothing => {}
+        Request::Zero => {
+            st.weighing = zero::zeroed(st.weighing, x.raw);
+            keyed = true;
+        }
+        Request::Tare => {
+            st.weighing = zero::tared(st.weighing, x.gross);
+        }
+        Request::TareClear => {
+            st.weighing = zero::tared(st.weighing, 0);
+        }
+        Request::Start => {
+            st.sequence = batch::sequence::start_sequence();
+            held = true;
+        }
+        Request::Stop => {
+            st.sequence = batch::sequence::stop_sequence(st.sequence);
+            held = true;
+        }
+        Request::Set(p) => {
+            st.setpoints = p;
+        }
+        Request::TotalClear => {
+            st.totals = totals::clear_totals();
+        }
+        Request::Undo => {
+            st.totals = totals::take_back(st.totals);
+        }
+        Request::ShowGross => {
+            st = with_display(st, Display::Gross);
+        }
+        Request::ShowNet => {
+            st = with_display(st, Display::Net);
+        }
+        Request::DayClose => {
+            let day = st.book;
+            let next = daybook::closed_book(day);
+            closed = Closed::Day(day);
+            st.book = next;
+        }
+    }
+    // The weights again, with the zero and the tare that the request leaves.
+    let served = weight::weigh(s, st.stability, st.weighing, raw, i.contact);
+    // 5. Tracking.
+    let sequence = st.sequence;
+    let stage = sequence.stage;
+    let idle = batch::sequence::is_idle(stage);
+    st.weighing = zero::tracking::tracked(s, idle, keyed, served, st.weighing);
+    // 6. Sequence, passed over after an accepted start, or a stop; in stage 00 it has nothing to do.
+    if !held {
+        if !idle {
+            let v = batch::comparison::compared(mode, served);
+            let fit = weight::is_fit(served);
+            let a = batch::advance(batching, st.setpoints, st.sequence, !fit, served.stable, v);
+            if a.finished {
+                st.sequence = totals::booked_sequence(st.totals, v, a.sequence);
+                st.totals = totals::booked_totals(st.totals, v);
+            } else {
+                let after = a.sequence;
+                st.sequence = after;
+            }
+        }
+    }
+    Ticked {
+        state: st,
+        answer: outputs(s, outcome, closed, served, st),
+    }
 }

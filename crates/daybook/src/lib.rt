@@ -11,6 +11,10 @@ const DAY_TICKS: u32 = 8_640_000;
 // A sum stops at it: a guard that no run meets.
 const BOOK_LIMIT: u64 = 69_120_000_000_000;
 
+// A sum within it, on either side of zero, needs no stop: no change from one raw to another takes such a sum to the limit. It is the largest
+// power of two below the limit, so that a machine tests both ends at once.
+const BOOK_PLAIN: i64 = 35_184_372_088_832;
+
 // The book of an opening: no good tick yet.
 pub fn open_book() -> Book
     ensures { λ r. ⌜ r ≡ openBook ⌝ }
@@ -43,6 +47,9 @@ fn counted(b: Book) -> u32
 fn booked(sum: i64, to: i32, from: i32) -> i64
     ensures { λ r. ⌜ r ≡ bookedOf sum (to -ℤ from) ⌝ }
 {
+    if 0 - BOOK_PLAIN <= sum && sum < BOOK_PLAIN {
+        return sum + whole::difference(to, from);
+    }
     whole::limited(
         whole::limited(sum, BOOK_LIMIT) + whole::difference(to, from),
         BOOK_LIMIT,
@@ -50,78 +57,49 @@ fn booked(sum: i64, to: i32, from: i32) -> i64
 }
 
 // Step 2 at a good tick after the first.
-fn later_good(b: Book, raw: i32, contact: bool) -> Book
+fn later_good(mut b: Book, raw: i32, contact: bool) -> Book
     ensures { λ r. ⌜ r ≡ laterGood b raw contact ⌝ }
 {
-    let ticks = counted(b);
+    let last = b.last;
+    b.begun = true;
+    b.last = raw;
     if is_in_day(b) {
+        b.ticks += 1;
         if contact {
-            return Book {
-                begun: true,
-                opening: b.opening,
-                last: raw,
-                refilled: booked(b.refilled, raw, b.last),
-                used: b.used,
-                unbooked: b.unbooked,
-                ticks,
-            };
+            b.refilled = booked(b.refilled, raw, last);
+            return b;
         }
-        return Book {
-            begun: true,
-            opening: b.opening,
-            last: raw,
-            refilled: b.refilled,
-            used: booked(b.used, b.last, raw),
-            unbooked: b.unbooked,
-            ticks,
-        };
+        b.used = booked(b.used, last, raw);
+        return b;
     }
-    Book {
-        begun: true,
-        opening: b.opening,
-        last: raw,
-        refilled: b.refilled,
-        used: b.used,
-        unbooked: booked(b.unbooked, b.last, raw),
-        ticks,
-    }
+    b.unbooked = booked(b.unbooked, last, raw);
+    b
 }
 
 // Step 2 at a good tick.
-fn good_tick(b: Book, raw: i32, contact: bool) -> Book
+fn good_tick(mut b: Book, raw: i32, contact: bool) -> Book
     ensures { λ r. ⌜ r ≡ bookOf b (Raw.Tenths raw) contact ⌝ }
 {
     if b.begun {
         return later_good(b, raw, contact);
     }
     let ticks = counted(b);
-    Book {
-        begun: true,
-        opening: raw,
-        last: raw,
-        refilled: b.refilled,
-        used: b.used,
-        unbooked: b.unbooked,
-        ticks,
-    }
+    b.begun = true;
+    b.opening = raw;
+    b.last = raw;
+    b.ticks = ticks;
+    b
 }
 
 // Step 2.
-pub fn book_tick(b: Book, raw: Raw, contact: bool) -> Book
+pub fn book_tick(mut b: Book, raw: Raw, contact: bool) -> Book
     ensures { λ r. ⌜ r ≡ bookOf b raw contact ⌝ }
 {
     match raw {
         Raw::Bad => {
             let ticks = counted(b);
-            Book {
-                begun: b.begun,
-                opening: b.opening,
-                last: b.last,
-                refilled: b.refilled,
-                used: b.used,
-                unbooked: b.unbooked,
-                ticks,
-            }
+            b.ticks = ticks;
+            b
         }
         Raw::Tenths(t) => good_tick(b, t, contact),
     }

@@ -1,3 +1,11 @@
 -- Laws that the proofs of this crate cite
 pub mod RestLaws
 pub mod RequestPlace
+-- numerals
+pub mod NumberLaws
+pub mod RunLaws
+-- pieces
+mod Turns
+-- ticks
+pub mod ReceiveLaws
+pub mod TickLaws

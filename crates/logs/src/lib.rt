@@ -1,11 +1,17 @@
-// The lines of a log, `count contact request`: what stands in one, and whether it can be read at all. Every line is taken, of any bytes.
+// The lines of a log, `count contact request`: what stands in one, and whether it can be read at all. Every line is taken, of any bytes. The
+// modules read a log from standard input and run the ticks of its lines.
 ghost use mathlib.Core.Path.{_≡_};
 ghost use Rattle.outline.specs.Log.{isContact, isRest, unreadable, logLineOf, isNone};
 use types::log::LogLine;
 use types::log::LogNumber;
 
+pub mod numerals;
+pub mod pieces;
+pub mod reader;
+pub mod ticks;
+
 // The most bytes of a request.
-pub const REQUEST_LIMIT: usize = 100;
+const REQUEST_LIMIT: usize = 100;
 
 // The bytes between a count and its request: a space, the contact, a space.
 const GAP: usize = 3;
@@ -38,13 +44,13 @@ fn is_rest(line: &[u8], at: usize) -> bool
     if REQUEST_LIMIT < line.len() - (at + GAP) {
         return false;
     }
-    if line::byte_at(line, at) != SPACE {
+    if commands::line::byte_at(line, at) != SPACE {
         return false;
     }
-    if line::byte_at(line, at + 2) != SPACE {
+    if commands::line::byte_at(line, at + 2) != SPACE {
         return false;
     }
-    is_contact(line::byte_at(line, at + 1))
+    is_contact(commands::line::byte_at(line, at + 1))
 }
 
 fn unreadable() -> LogLine
@@ -59,14 +65,14 @@ fn unreadable() -> LogLine
 }
 
 // The count tells where the rest begins, so it is read first.
-pub fn log_line(line: &[u8]) -> LogLine
+fn log_line(line: &[u8]) -> LogLine
     ensures { λ r. ⌜ r ≡ logLineOf (now (line .entry)) ⌝ }
 {
-    let LogNumber::Number(count, at) = numerals::number_at(line, 0) else {
+    let LogNumber::Number(count, at) = crate::numerals::number_at(line, 0) else {
         return unreadable();
     };
     if is_rest(line, at) {
-        let contact = line::byte_at(line, at + 1) == CLOSED;
+        let contact = commands::line::byte_at(line, at + 1) == CLOSED;
         let request = at + GAP;
         return LogLine {
             read: true,
@@ -79,14 +85,14 @@ pub fn log_line(line: &[u8]) -> LogLine
 }
 
 // `--` asks for nothing.
-pub fn is_none(request: &[u8]) -> bool
+fn is_none(request: &[u8]) -> bool
     ensures { λ r. ⌜ r ≡ isNone (now (request .entry)) ⌝ }
 {
     if request.len() != NONE_LENGTH {
         return false;
     }
-    if request[0] != numerals::MINUS {
+    if request[0] != crate::numerals::MINUS {
         return false;
     }
-    request[1] == numerals::MINUS
+    request[1] == crate::numerals::MINUS
 }

@@ -1,7 +1,10 @@
-// The outline's number of a refusal.
+// The outline's number of each answer, stage and error.
 ghost use mathlib.Core.Path.{_≡_};
-ghost use Rattle.outline.specs.Numbers.{refusalNumber};
+ghost use Rattle.outline.specs.Numbers.{refusalNumber, toldNumber, stageNumber, errorNumber};
+use types::lines::LineAnswer;
 use types::requests::Refusal;
+use types::stages::SequenceError;
+use types::stages::Stage;
 
 pub fn refusal_number(n: Refusal) -> u8
     ensures { λ r. ⌜ r ≡ refusalNumber n ⌝ }
@@ -14,5 +17,49 @@ pub fn refusal_number(n: Refusal) -> u8
         Refusal::OutsideRules => 5,
         Refusal::SetpointRules => 6,
         Refusal::NothingToTakeBack => 7,
+    }
+}
+
+pub fn told_number(t: LineAnswer) -> u8
+    ensures { λ r. ⌜ r ≡ toldNumber t ⌝ }
+{
+    match t {
+        LineAnswer::Done => 0,
+        LineAnswer::Refused(n) => refusal_number(n),
+        LineAnswer::Malformed => 11,
+        LineAnswer::OtherAddress => 12,
+        LineAnswer::Unknown => 13,
+        LineAnswer::ShortBuffer => 14,
+    }
+}
+
+pub fn stage_number(stage: Stage) -> u8
+    ensures { λ r. ⌜ r ≡ stageNumber stage ⌝ }
+{
+    match stage {
+        Stage::Idle => 0,
+        Stage::StartDelay(_) => 3,
+        Stage::LargeDisable(_) => 4,
+        Stage::LargeFlow => 5,
+        Stage::MediumDisable(_) => 6,
+        Stage::MediumFlow => 7,
+        Stage::SmallDisable(_) => 8,
+        Stage::SmallFlow => 9,
+        Stage::JudgeDelay(_) => 10,
+        Stage::JudgeWait => 11,
+    }
+}
+
+pub fn error_number(e: SequenceError) -> u8
+    ensures { λ r. ⌜ r ≡ errorNumber e ⌝ }
+{
+    match e {
+        SequenceError::None => 0,
+        SequenceError::NoFinal => 1,
+        SequenceError::Reached => 2,
+        SequenceError::Stopped => 4,
+        SequenceError::FlowTime => 6,
+        SequenceError::BadWeight => 9,
+        SequenceError::NotBooked => 10,
     }
 }

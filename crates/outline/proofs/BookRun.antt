@@ -13,7 +13,8 @@ use Rattle.outline.specs.DayBook.{bookOf, closedOf}
 use Rattle.outline.specs.Tick.{openState}
 use Rattle.outline.specs.Owed.{Accepted}
 use Rattle.outline.specs.Run.{History, start, _▷_, runOf}
-use Rattle.outline.specs.Day.{goodOf, asksClose, noted, tapeOf, ticksOf, goodAt, goodsOf, daySums, bookHistory}
+use Rattle.outline.specs.Kinds.{requestKind}
+use Rattle.outline.specs.Day.{goodOf, noted, tapeOf, ticksOf, goodAt, goodsOf, daySums, bookHistory}
 use Rattle.outline.specs.StaysTrue.{Balance, SumsOfHistory, NothingElse}
 use Rattle.outline.proofs.RawLaw.{raw-law}
 use Rattle.outline.proofs.BookStep.{bookTick, tick-book}
@@ -22,7 +23,7 @@ use Rattle.outline.proofs.DaySums.{Bounded, bounded-start, bounded-bad,
 module _ (s : Settings) (ok : Accepted s) where
   bounded : (h : History Input) → Bounded (goodsOf (s .calibration) (tapeOf h)) (ticksOf (tapeOf h))
   bounded start = bounded-start
-  bounded (h ▷ i) = go (goodOf (i .count)) (asksClose (i .request)) refl (bounded h)
+  bounded (h ▷ i) = go (goodOf (i .count)) (requestKind (i .request) .closes) refl (bounded h)
     where
       go : (good asks : Bool) → goodOf (i .count) ≡ good →
           let goods = goodsOf (s .calibration) (tapeOf h) in
@@ -33,9 +34,9 @@ module _ (s : Settings) (ok : Accepted s) where
       go false asks e b = bounded-bad _ _ b
 
   -- a tick takes the sums of a history to those of the history with that tick
-  book-more : (h : History Input) (i : Input) → bookTick (rawOf (s .calibration) (i .count)) (i .contact) (asksClose (i .request)) (bookHistory (s .calibration) (tapeOf h)) ≡ bookHistory (s .calibration) (tapeOf (h ▷ i))
+  book-more : (h : History Input) (i : Input) → bookTick (rawOf (s .calibration) (i .count)) (i .contact) (requestKind (i .request) .closes) (bookHistory (s .calibration) (tapeOf h)) ≡ bookHistory (s .calibration) (tapeOf (h ▷ i))
   unfolding bookHistory
-  book-more h i = go (goodOf (i .count)) (asksClose (i .request)) refl
+  book-more h i = go (goodOf (i .count)) (requestKind (i .request) .closes) refl
     where
       good-tick : goodOf (i .count) ≡ true →
           let goods = goodsOf (s .calibration) (tapeOf h) in
@@ -55,7 +56,7 @@ module _ (s : Settings) (ok : Accepted s) where
 pub sums-law : SumsOfHistory
 unfolding runOf openState bookHistory
 sums-law s ok start = refl
-sums-law s ok (h ▷ i) = tick-book s (runOf s h) i ∙ ap (bookTick (rawOf (s .calibration) (i .count)) (i .contact) (asksClose (i .request))) (sums-law s ok h) ∙ book-more s ok h i
+sums-law s ok (h ▷ i) = tick-book s (runOf s h) i ∙ ap (bookTick (rawOf (s .calibration) (i .count)) (i .contact) (requestKind (i .request) .closes)) (sums-law s ok h) ∙ book-more s ok h i
 
 pub balance-law : Balance
 unfolding bookHistory

@@ -15,9 +15,9 @@ use Rattle.types.specs.declared.machine.Input.{Input}
 use Rattle.types.specs.declared.machine.Settled.{Settled}
 use Rattle.outline.specs.Weight.{rawOf, weighOf}
 use Rattle.outline.specs.DayBook.{bookOf, closedOf}
-use Rattle.outline.specs.Requests.{doneOf, rulingOf, grantedOf, settledBy}
+use Rattle.outline.specs.Requests.{doneOf, rulingOf, grantedOf, decidedOf}
 use Rattle.outline.specs.Tick.{enteredOf, weightsOf, settledOf, withTracking, finishedOf, steppedOf, endedOf, nextOf}
-use Rattle.outline.specs.Day.{asksClose}
+use Rattle.outline.specs.Kinds.{requestKind}
 use Rattle.outline.proofs.Parts.{cond-same, and-no, and-yes}
 
 -- step 2
@@ -31,8 +31,8 @@ close-done true = refl
 close-done false = refl
 
 -- step 4 changes the book at an accepted day close alone
-settled-book : (s : Settings) (st : State) (x : Weights) (r : Request) → settledBy s st x r .state .book ≡ cond (x .good && asksClose r) (closedOf (st .book)) (st .book)
-unfolding settledBy rulingOf grantedOf
+settled-book : (s : Settings) (st : State) (x : Weights) (r : Request) → decidedOf s st x r .state .book ≡ cond (x .good && requestKind r .closes) (closedOf (st .book)) (st .book)
+unfolding decidedOf rulingOf grantedOf
 settled-book s st x request.Nothing = simp (and-no, cond-same)
 settled-book s st x request.Zero = simp (and-no, cond-same)
 settled-book s st x request.Tare = simp (and-no, cond-same)
@@ -58,9 +58,9 @@ bookTick (Tenths x) contact true b = closedOf (bookOf b (Tenths x) contact)
 bookTick (Tenths x) contact false b = bookOf b (Tenths x) contact
 
 -- the step law
-pub tick-book : (s : Settings) (st : State) (i : Input) → nextOf s st i .book ≡ bookTick (rawOf (s .calibration) (i .count)) (i .contact) (asksClose (i .request)) (st .book)
+pub tick-book : (s : Settings) (st : State) (i : Input) → nextOf s st i .book ≡ bookTick (rawOf (s .calibration) (i .count)) (i .contact) (requestKind (i .request) .closes) (st .book)
 unfolding nextOf settledOf enteredOf weightsOf weighOf
-tick-book s st i = ended-book s _ _ ∙ settled-book s _ _ (i .request) ∙ go (rawOf (s .calibration) (i .count)) (asksClose (i .request))
+tick-book s st i = ended-book s _ _ ∙ settled-book s _ _ (i .request) ∙ go (rawOf (s .calibration) (i .count)) (requestKind (i .request) .closes)
   where
     go : (raw : Raw) (asks : Bool) →
         let entered = enteredOf s st raw (i .contact) in

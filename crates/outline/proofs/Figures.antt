@@ -10,13 +10,13 @@ use Rattle.outline.specs.Zero.{trackedOf}
 use Rattle.outline.specs.Setpoints.{setpointsFit, nearOf, fullOf}
 use Rattle.outline.specs.Stages.{factsOf, waitOf, firstFlow, afterStart, judgedOf, moveOf, stopSequence, landOf, advanceOf, gatesOf}
 use Rattle.outline.specs.Totals.{bookedTotals, bookedSequence, takenBack}
-use Rattle.outline.specs.Requests.{rulingOf, grantedOf, settledBy}
+use Rattle.outline.specs.Requests.{rulingOf, grantedOf, decidedOf}
 use Rattle.outline.specs.Analog.{betweenOf, clipOf, analogOf}
 use Rattle.outline.specs.Tick.{openState, enteredOf, weightsOf, settledOf, servedOf, withTracking, finishedOf, steppedOf, endedOf, nextOf, outputsOf, tickOf, countIn}
 use Rattle.outline.specs.Figures.{Starred, Runs, Table}
 
 pub starred : Starred
-unfolding ofInt sub mul div add lt nearestN nearestOf limitTo countsFit capacityFits divisionFits zeroRangeFits trackingFits stabilityFits modeFits delaysFit flowFits addressFits analogFits settingsFit settingsOf openOf rawOf weighOf steadiedOf limitOf bookedOf laterGood bookOf closedOf trackedOf setpointsFit nearOf fullOf factsOf waitOf firstFlow afterStart judgedOf moveOf stopSequence landOf advanceOf gatesOf bookedTotals bookedSequence takenBack rulingOf grantedOf settledBy betweenOf clipOf analogOf openState enteredOf weightsOf settledOf servedOf withTracking finishedOf steppedOf endedOf nextOf outputsOf tickOf countIn
+unfolding ofInt sub mul div add lt nearestN nearestOf limitTo countsFit capacityFits divisionFits zeroRangeFits trackingFits stabilityFits modeFits delaysFit flowFits addressFits analogFits settingsFit settingsOf openOf rawOf weighOf steadiedOf limitOf bookedOf laterGood bookOf closedOf trackedOf setpointsFit nearOf fullOf factsOf waitOf firstFlow afterStart judgedOf moveOf stopSequence landOf advanceOf gatesOf bookedTotals bookedSequence takenBack rulingOf grantedOf decidedOf betweenOf clipOf analogOf openState enteredOf weightsOf settledOf servedOf withTracking finishedOf steppedOf endedOf nextOf outputsOf tickOf countIn
 starred = record {
   s-100000 = refl;
   opened = refl;
@@ -39,7 +39,7 @@ starred = record {
 }
 
 pub runs : Runs
-unfolding nearestN nearestOf limitTo settingsOf rawOf weighOf steadiedOf limitOf bookedOf laterGood bookOf closedOf trackedOf nearOf fullOf factsOf advanceOf gatesOf rulingOf grantedOf settledBy analogOf openState enteredOf weightsOf settledOf servedOf withTracking finishedOf steppedOf endedOf nextOf outputsOf tickOf countIn
+unfolding nearestN nearestOf limitTo settingsOf rawOf weighOf steadiedOf limitOf bookedOf laterGood bookOf closedOf trackedOf nearOf fullOf factsOf advanceOf gatesOf rulingOf grantedOf decidedOf analogOf openState enteredOf weightsOf settledOf servedOf withTracking finishedOf steppedOf endedOf nextOf outputsOf tickOf countIn
 runs = record { zero-after-falls = refl; gross-after-falls = refl; used-after-falls = refl; ticket = refl }
 
 pub table : Table

@@ -41,3 +41,8 @@ pub mod RangeSetpoints
 pub mod RangeSequence
 pub mod RangeTotals
 pub mod RangeRun
+-- every tick with a line
+pub mod LineEnds
+pub mod LineBytes
+pub mod LineOrder
+pub mod LineBack

@@ -24,7 +24,7 @@ use Rattle.types.specs.declared.machine.Input.{Input}
 use Rattle.types.specs.declared.machine.Settled.{Settled}
 use Rattle.outline.specs.Stages.{factsOf, moveOf, idleOf, lateOf, failedOf, stopSequence, landOf, advanceOf, shut, gatesOf}
 use Rattle.outline.specs.Totals.{bookable, bookedSequence}
-use Rattle.outline.specs.Requests.{rulingOf, doneOf, grantedOf, settledBy}
+use Rattle.outline.specs.Requests.{rulingOf, doneOf, grantedOf, decidedOf}
 use Rattle.outline.specs.Tick.{enteredOf, settledOf, servedOf, withTracking, finishedOf, steppedOf, endedOf, nextOf, outputsOf, tickOf}
 use Rattle.whole.specs.Chains.{or-second}
 
@@ -68,8 +68,8 @@ granted-quiet st x request.ShowGross h = h
 granted-quiet st x request.ShowNet h = h
 granted-quiet st x request.DayClose h = h
 
-quiet-settled : (s : Settings) (st : State) (x : Weights) (r : Request) → quietOf (st .sequence) ≡ true → quietOf (settledBy s st x r .state .sequence) ≡ true
-unfolding settledBy
+quiet-settled : (s : Settings) (st : State) (x : Weights) (r : Request) → quietOf (st .sequence) ≡ true → quietOf (decidedOf s st x r .state .sequence) ≡ true
+unfolding decidedOf
 quiet-settled s st x r h = cond-quiet (doneOf (rulingOf s st x r)) _ _ (granted-quiet st x r h) h
 
 -- ---- step 6: it is quiet, and a batch finishes into stage 00

@@ -21,7 +21,7 @@ use Rattle.outline.specs.Limits.{rawLimit, dayTicks, bookLimit}
 use Rattle.outline.specs.Settings.{within}
 use Rattle.outline.specs.Weight.{goodCount, tenthsOf, rawOf}
 use Rattle.outline.specs.DayBook.{limitOf, bookedOf, inDay, dayCount, firstGood, laterGood, bookOf, closedOf}
-use Rattle.outline.specs.Requests.{doneOf, rulingOf, grantedOf, settledBy}
+use Rattle.outline.specs.Requests.{doneOf, rulingOf, grantedOf, decidedOf}
 use Rattle.outline.specs.Tick.{enteredOf, settledOf, servedOf, withTracking, finishedOf, steppedOf, endedOf, nextOf}
 use Rattle.outline.specs.Ranges.{BookRange}
 use Rattle.whole.specs.Chains.{and-right}
@@ -123,8 +123,8 @@ granted-book st x request.ShowGross h = h
 granted-book st x request.ShowNet h = h
 granted-book st x request.DayClose h = closed-in (st .book) h
 
-settled-book : (s : Settings) (st : State) (x : Weights) (r : Request) → BookRange (st .book) → BookRange (settledBy s st x r .state .book)
-unfolding settledBy
+settled-book : (s : Settings) (st : State) (x : Weights) (r : Request) → BookRange (st .book) → BookRange (decidedOf s st x r .state .book)
+unfolding decidedOf
 settled-book s st x r h = cond-in BookRange (doneOf (rulingOf s st x r)) (λ e. granted-book st x r h) (λ e. h)
 
 -- ---- steps 5 and 6 leave it

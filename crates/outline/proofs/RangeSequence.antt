@@ -31,7 +31,7 @@ use Rattle.types.specs.declared.machine.Settled.{Settled}
 use Rattle.outline.specs.Setpoints.{noLargeFlow}
 use Rattle.outline.specs.Stages.{comparedOf, factsOf, waitOf, timed, until, afterLarge, firstFlow, afterStart, judgedOf, moveOf, idleOf, flowingOf, clockOf, lateOf, failedOf, startSequence, stopSequence, landOf, advanceOf}
 use Rattle.outline.specs.Totals.{bookable, bookedSequence}
-use Rattle.outline.specs.Requests.{doneOf, rulingOf, grantedOf, settledBy}
+use Rattle.outline.specs.Requests.{doneOf, rulingOf, grantedOf, decidedOf}
 use Rattle.outline.specs.Tick.{enteredOf, settledOf, withTracking, finishedOf, steppedOf, endedOf, nextOf}
 use Rattle.outline.specs.Ranges.{TimerRange, SequenceRange}
 use Rattle.outline.proofs.Parts.{cond-in, clash}
@@ -69,8 +69,8 @@ granted-sequence b st x request.ShowGross h = h
 granted-sequence b st x request.ShowNet h = h
 granted-sequence b st x request.DayClose h = h
 
-settled-sequence : (s : Settings) (st : State) (x : Weights) (r : Request) → SequenceRange (s .batching) (st .sequence) → SequenceRange (s .batching) (settledBy s st x r .state .sequence)
-unfolding settledBy
+settled-sequence : (s : Settings) (st : State) (x : Weights) (r : Request) → SequenceRange (s .batching) (st .sequence) → SequenceRange (s .batching) (decidedOf s st x r .state .sequence)
+unfolding decidedOf
 settled-sequence s st x r h =
     cond-in (SequenceRange (s .batching)) (doneOf (rulingOf s st x r)) (λ e. granted-sequence (s .batching) st x r h) (λ e. h)
 

@@ -12,7 +12,7 @@ use Rattle.types.specs.declared.stages.Setpoints.{Setpoints}
 use Rattle.types.specs.declared.machine.State.{State}
 use Rattle.types.specs.declared.machine.Input.{Input}
 use Rattle.outline.specs.Setpoints.{openSetpoints, setpointsFit}
-use Rattle.outline.specs.Requests.{rowsTo, doneOf, rulingOf, grantedOf, settledBy}
+use Rattle.outline.specs.Requests.{rowsTo, doneOf, rulingOf, grantedOf, decidedOf}
 use Rattle.outline.specs.Tick.{enteredOf, settledOf, servedOf, nextOf}
 use Rattle.outline.proofs.Parts.{cond-in, none-applies}
 use Rattle.outline.proofs.SetpointStep.{ended-setpoints}
@@ -31,15 +31,15 @@ module _ (s : Settings) (st : State) (x : Weights) (h : setpointsFit (s .batchin
   granted-fits request.TareClear e = h
   granted-fits request.Start e = h
   granted-fits request.Stop e = h
-  granted-fits (request.Set p) e = not-false _ (none-applies (rowsTo s st x (request.Set p)) e .1 .0)
+  granted-fits (request.Set p) e = not-false _ (none-applies (rowsTo (s .range) (s .batching .mode) (st .sequence) (st .totals) x (request.Set p)) e .1 .0)
   granted-fits request.TotalClear e = h
   granted-fits request.Undo e = h
   granted-fits request.ShowGross e = h
   granted-fits request.ShowNet e = h
   granted-fits request.DayClose e = h
 
-  settled-fits : (r : Request) → setpointsFit (s .batching .mode) (settledBy s st x r .state .setpoints) ≡ true
-  unfolding settledBy
+  settled-fits : (r : Request) → setpointsFit (s .batching .mode) (decidedOf s st x r .state .setpoints) ≡ true
+  unfolding decidedOf
   settled-fits r = cond-in (λ (p : Setpoints). setpointsFit (s .batching .mode) p ≡ true) (doneOf (rulingOf s st x r)) (granted-fits r) (λ e. h)
 
 pub tick-fits : (s : Settings) (st : State) (i : Input) → setpointsFit (s .batching .mode) (st .setpoints) ≡ true → setpointsFit (s .batching .mode) (nextOf s st i .setpoints) ≡ true

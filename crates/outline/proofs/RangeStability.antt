@@ -17,7 +17,7 @@ use Rattle.types.specs.declared.machine.Input.{Input}
 use Rattle.types.specs.declared.machine.Settled.{Settled}
 use Rattle.outline.specs.Settings.{within}
 use Rattle.outline.specs.Weight.{rawOf, steadiedOf}
-use Rattle.outline.specs.Requests.{grantedOf, settledBy}
+use Rattle.outline.specs.Requests.{grantedOf, decidedOf}
 use Rattle.outline.specs.Tick.{enteredOf, settledOf, servedOf, withTracking, finishedOf, steppedOf, endedOf, nextOf}
 use Rattle.outline.specs.Ranges.{StabilityRange}
 use Rattle.outline.proofs.Parts.{cond-same, cond-in, clash}
@@ -47,8 +47,8 @@ granted-stability st x request.ShowGross = refl
 granted-stability st x request.ShowNet = refl
 granted-stability st x request.DayClose = refl
 
-settled-stability : (s : Settings) (st : State) (x : Weights) (r : Request) → settledBy s st x r .state .stability ≡ st .stability
-unfolding settledBy
+settled-stability : (s : Settings) (st : State) (x : Weights) (r : Request) → decidedOf s st x r .state .stability ≡ st .stability
+unfolding decidedOf
 settled-stability s st x r = simp (granted-stability st x r, cond-same)
 
 ended-stability : (s : Settings) (a : Settled) (x : Weights) → endedOf s a x .stability ≡ a .state .stability

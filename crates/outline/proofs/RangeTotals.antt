@@ -21,7 +21,7 @@ use Rattle.types.specs.declared.machine.Input.{Input}
 use Rattle.types.specs.declared.machine.Settled.{Settled}
 use Rattle.outline.specs.Limits.{totalLimit, batchLimit}
 use Rattle.outline.specs.Totals.{clearTotals, bookable, grownOf, bookedTotals, lessBatch, takenBack}
-use Rattle.outline.specs.Requests.{doneOf, rulingOf, grantedOf, settledBy}
+use Rattle.outline.specs.Requests.{doneOf, rulingOf, grantedOf, decidedOf}
 use Rattle.outline.specs.Stages.{comparedOf}
 use Rattle.outline.specs.Tick.{enteredOf, settledOf, withTracking, finishedOf, steppedOf, endedOf, nextOf}
 use Rattle.outline.specs.Ranges.{TotalsRange}
@@ -51,8 +51,8 @@ granted-totals st x request.ShowGross h = h
 granted-totals st x request.ShowNet h = h
 granted-totals st x request.DayClose h = h
 
-settled-totals : (s : Settings) (st : State) (x : Weights) (r : Request) → TotalsRange (st .totals) → TotalsRange (settledBy s st x r .state .totals)
-unfolding settledBy
+settled-totals : (s : Settings) (st : State) (x : Weights) (r : Request) → TotalsRange (st .totals) → TotalsRange (decidedOf s st x r .state .totals)
+unfolding decidedOf
 settled-totals s st x r h = cond-in TotalsRange (doneOf (rulingOf s st x r)) (λ e. granted-totals st x r h) (λ e. h)
 
 -- ---- step 6: a batch is booked where neither limit would be passed

@@ -29,7 +29,7 @@ use Rattle.outline.specs.Limits.{overloadMargin, displayLimit}
 use Rattle.outline.specs.Settings.{within}
 use Rattle.outline.specs.Weight.{rawOf, divisionsOf, grossOf, keptOf, weighOf, fitOf}
 use Rattle.outline.specs.Zero.{inZeroRange, zeroedOf, inTareRange, taredOf, trackingOn, calmOf, mayMove, withCounter, movedOf, countedUp, trackedOf}
-use Rattle.outline.specs.Requests.{idleNow, rowsTo, doneOf, rulingOf, grantedOf, settledBy}
+use Rattle.outline.specs.Requests.{idleNow, rowsTo, doneOf, rulingOf, grantedOf, decidedOf}
 use Rattle.outline.specs.Tick.{enteredOf, weightsOf, settledOf, servedOf, withTracking, finishedOf, steppedOf, endedOf, nextOf}
 use Rattle.outline.specs.Ranges.{WeighingRange, WeightsRange}
 use Rattle.whole.specs.Chains.{and-left, and-right, links}
@@ -112,8 +112,8 @@ module _ (s : Settings) (st : State) (x : Weights) (weighed : Weighed (s .range)
   granted-weighing : (r : Request) → doneOf (rulingOf s st x r) ≡ true → In s (grantedOf st x r .state .weighing)
   unfolding grantedOf rulingOf
   granted-weighing request.Nothing e = h
-  granted-weighing request.Zero e = zeroed-in (s .range) (s .tracking) (st .weighing) h (x .raw) (not-false _ (none-applies (rowsTo s st x request.Zero) e .1 .1 .1 .1 .0))
-  granted-weighing request.Tare e = tare-in (s .range) (s .tracking) (st .weighing) (st .weighing) x h weighed (not-false _ (none-applies (rowsTo s st x request.Tare) e .1 .1 .1 .1 .0))
+  granted-weighing request.Zero e = zeroed-in (s .range) (s .tracking) (st .weighing) h (x .raw) (not-false _ (none-applies (rowsTo (s .range) (s .batching .mode) (st .sequence) (st .totals) x request.Zero) e .1 .1 .1 .1 .0))
+  granted-weighing request.Tare e = tare-in (s .range) (s .tracking) (st .weighing) (st .weighing) x h weighed (not-false _ (none-applies (rowsTo (s .range) (s .batching .mode) (st .sequence) (st .totals) x request.Tare) e .1 .1 .1 .1 .0))
   granted-weighing request.TareClear e = tared-in (s .range) (s .tracking) (st .weighing) h (pos 0) refl (omega arith)
   granted-weighing request.Start e = h
   granted-weighing request.Stop e = h
@@ -124,8 +124,8 @@ module _ (s : Settings) (st : State) (x : Weights) (weighed : Weighed (s .range)
   granted-weighing request.ShowNet e = h
   granted-weighing request.DayClose e = h
 
-  settled-weighing : (r : Request) → In s (settledBy s st x r .state .weighing)
-  unfolding settledBy
+  settled-weighing : (r : Request) → In s (decidedOf s st x r .state .weighing)
+  unfolding decidedOf
   settled-weighing r = cond-in (In s) (doneOf (rulingOf s st x r)) (granted-weighing r) (λ e. h)
 
 -- ---- step 5

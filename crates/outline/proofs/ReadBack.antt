@@ -26,11 +26,13 @@ use Rattle.types.specs.declared.lines.Command.{Command}
 use Rattle.types.specs.declared.lines.Command.the-variants as command
 use Rattle.types.specs.declared.lines.LineAnswer.the-variants as told
 use Rattle.types.specs.declared.lines.LineTick.{LineTick}
-use Rattle.outline.specs.Tick.{settledOf, servedOf, nextOf}
-use Rattle.outline.specs.Lines.{lineOf, kindOf, prefixLength, isPrefixed, lettersOf, fieldsOf, setOf, decodeOf, bodyOf, spokenOf, commandAt, commandOf, requestOf}
-use Rattle.outline.specs.Replies.{framed, replyText, replyDue, pointsText, outcomeTold, toldOf, askedOf, unaskedOf, dueText, lineTickOf}
+use Rattle.outline.specs.Tick.{settledOf, servedOf, readingOf, nextOf, unaskedOf}
+use Rattle.outline.specs.Lines.{lineOf, kindOf, prefixLength, isPrefixed, lettersOf, fieldsOf, setOf, decodeOf, bodyOf, spokenOf, commandAt, commandOf}
+use Rattle.outline.specs.Replies.{requestOf}
+use Rattle.outline.specs.Replies.{framed, replyText, replyDue, pointsText, outcomeTold, toldOf, askedOf, dueText, lineTickOf}
 use Rattle.outline.specs.Run.{History, _▷_, runOf, thenAll, lineInput}
-use Rattle.outline.specs.StaysTrue.{isSet, NoneSet, figuresOf, ReadBack}
+use Rattle.outline.specs.Kinds.{requestKind}
+use Rattle.outline.specs.StaysTrue.{NoneSet, figuresOf, ReadBack}
 use Rattle.outline.proofs.DigitsBack.{fields-back}
 use Rattle.outline.proofs.SetpointStep.{settled-kept, tick-setpoints, tick-set}
 
@@ -117,7 +119,7 @@ kept s h [] n = refl
 kept s h (i ∷ later) n = kept s (h ▷ i) later (n .1) ∙ tick-setpoints s (runOf s h) i (n .0)
 
 -- ---- RS replies with the setpoints as they are
-read-request : (c : Command) → c ≡ command.Do word.ReadSetpoints → isSet (requestOf c) ≡ false
+read-request : (c : Command) → c ≡ command.Do word.ReadSetpoints → requestKind (requestOf c) .writes ≡ false
 unfolding requestOf
 read-request c e = rw e
 
@@ -125,7 +127,7 @@ due : (s : Settings) (st : State) (count : ℤ) (contact : Bool) (receive : List
     → dueText s st count contact receive ≡ framed (s .address) (pointsText (st .setpoints))
 unfolding dueText replyText replyDue
 due s st count contact receive e =
-    ap (λ (c : Command). replyText (s .address) (replyDue c (settledOf s st asked) (servedOf s st asked))) e
+    ap (λ (c : Command). replyText (s .address) (replyDue c (settledOf s st asked .state) (readingOf (servedOf s st asked)) (settledOf s st asked .outcome))) e
     ∙ ap (λ (p : Setpoints). framed (s .address) (pointsText p)) (settled-kept s st asked (read-request _ e))
   where
     asked : Input

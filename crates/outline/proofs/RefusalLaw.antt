@@ -13,9 +13,9 @@ use Rattle.types.specs.declared.machine.Input.{Input}
 use Rattle.types.specs.declared.machine.Settled.{Settled}
 use Rattle.types.specs.declared.machine.Ticked.{Ticked}
 use Rattle.outline.specs.Weight.{rawOf}
-use Rattle.outline.specs.Requests.{doneOf, plainly, rulingOf, grantedOf, settling, settledBy}
+use Rattle.outline.specs.Requests.{doneOf, plainly, rulingOf, grantedOf, unlessRefused, decidedOf}
 use Rattle.outline.specs.Tick.{enteredOf, weightsOf, settledOf, servedOf, withTracking, endedOf, nextOf, outputsOf, tickOf}
-use Rattle.outline.specs.Run.{unasked}
+use Rattle.outline.specs.Run.{withoutRequest}
 use Rattle.outline.specs.StaysTrue.{Refusals}
 
 -- the same, with another outcome and no day closed
@@ -40,7 +40,7 @@ told o t = record {
 }
 
 -- refused, step 4 does what it does where nothing is asked
-unmoved : (o : Outcome) (st : State) (granted : Settled) → doneOf o ≡ false → settling o st granted ≡ toldSettled o (settling outcome.Done st (plainly st))
+unmoved : (o : Outcome) (st : State) (granted : Settled) → doneOf o ≡ false → unlessRefused o st granted ≡ toldSettled o (unlessRefused outcome.Done st (plainly st))
 unmoved outcome.Done st granted e = let z : _≡_ {A = ℕ} 0 1 = cc in absurd (omega arith)
 unmoved (outcome.Refused n) st granted e = refl
 
@@ -50,8 +50,8 @@ restOf s raw contact a =
     let x = weightsOf s (a .state) raw contact in
     record { state = endedOf s a x; answer = outputsOf s a x (endedOf s a x) }
 
-same : (s : Settings) (st : State) (i : Input) → doneOf (tickOf s st i .answer .outcome) ≡ false → tickOf s st i ≡ told (tickOf s st i .answer .outcome) (tickOf s st (unasked i))
-unfolding tickOf nextOf servedOf settledOf settledBy rulingOf grantedOf outputsOf endedOf withTracking
+same : (s : Settings) (st : State) (i : Input) → doneOf (tickOf s st i .answer .outcome) ≡ false → tickOf s st i ≡ told (tickOf s st i .answer .outcome) (tickOf s st (withoutRequest i))
+unfolding tickOf nextOf servedOf settledOf decidedOf rulingOf grantedOf outputsOf endedOf withTracking
 same s st i e =
     let raw = rawOf (s .calibration) (i .count) in
     let entered = enteredOf s st raw (i .contact) in

@@ -10,15 +10,16 @@ use Rattle.outline.specs.Zero.{trackedOf}
 use Rattle.outline.specs.Setpoints.{setpointsFit, nearOf, fullOf}
 use Rattle.outline.specs.Stages.{factsOf, waitOf, firstFlow, afterStart, judgedOf, moveOf, stopSequence, landOf, advanceOf, gatesOf}
 use Rattle.outline.specs.Totals.{bookedTotals, bookedSequence, takenBack}
-use Rattle.outline.specs.Requests.{rulingOf, grantedOf, settledBy}
+use Rattle.outline.specs.Requests.{rulingOf, grantedOf, decidedOf}
 use Rattle.outline.specs.Analog.{betweenOf, clipOf, analogOf}
 use Rattle.outline.specs.Tick.{openState, enteredOf, weightsOf, settledOf, servedOf, withTracking, finishedOf, steppedOf, endedOf, nextOf, outputsOf, tickOf, countIn, blockOf}
-use Rattle.outline.specs.Lines.{lineEndOf, lineOf, kindOf, prefixLength, isPrefixed, lettersOf, fieldOf, fieldsOf, decodeOf, bodyOf, spokenOf, commandOf, requestOf}
+use Rattle.outline.specs.Lines.{lineEndOf, lineOf, kindOf, prefixLength, isPrefixed, lettersOf, fieldOf, fieldsOf, decodeOf, bodyOf, spokenOf, commandOf}
+use Rattle.outline.specs.Replies.{requestOf}
 use Rattle.outline.specs.Replies.{digitsOf, weightText, totalText, pointsText, refusedText, framed, replyText, shownOf, replyDue, toldOf, dueText, lineTickOf, writtenOf, replyBuffer}
 use Rattle.outline.specs.Rules.{Weighed, Refused, Staged, Booked}
 
 pub weighed : Weighed
-unfolding ofInt sub mul div add lt nearestN nearestOf limitTo countsFit capacityFits divisionFits zeroRangeFits trackingFits stabilityFits modeFits delaysFit flowFits addressFits analogFits settingsFit settingsOf openOf rawOf weighOf steadiedOf limitOf bookedOf laterGood bookOf closedOf trackedOf setpointsFit nearOf fullOf factsOf waitOf firstFlow afterStart judgedOf moveOf stopSequence landOf advanceOf gatesOf bookedTotals bookedSequence takenBack rulingOf grantedOf settledBy betweenOf clipOf analogOf openState enteredOf weightsOf settledOf servedOf withTracking finishedOf steppedOf endedOf nextOf outputsOf tickOf countIn lineEndOf lineOf kindOf prefixLength isPrefixed lettersOf fieldOf fieldsOf decodeOf bodyOf spokenOf commandOf requestOf digitsOf weightText totalText pointsText refusedText framed replyText shownOf replyDue toldOf dueText lineTickOf writtenOf replyBuffer blockOf
+unfolding ofInt sub mul div add lt nearestN nearestOf limitTo countsFit capacityFits divisionFits zeroRangeFits trackingFits stabilityFits modeFits delaysFit flowFits addressFits analogFits settingsFit settingsOf openOf rawOf weighOf steadiedOf limitOf bookedOf laterGood bookOf closedOf trackedOf setpointsFit nearOf fullOf factsOf waitOf firstFlow afterStart judgedOf moveOf stopSequence landOf advanceOf gatesOf bookedTotals bookedSequence takenBack rulingOf grantedOf decidedOf betweenOf clipOf analogOf openState enteredOf weightsOf settledOf servedOf withTracking finishedOf steppedOf endedOf nextOf outputsOf tickOf countIn lineEndOf lineOf kindOf prefixLength isPrefixed lettersOf fieldOf fieldsOf decodeOf bodyOf spokenOf commandOf requestOf digitsOf weightText totalText pointsText refusedText framed replyText shownOf replyDue toldOf dueText lineTickOf writtenOf replyBuffer blockOf
 weighed = record {
   raw-up = refl;
   raw-down = refl;
@@ -37,7 +38,7 @@ weighed = record {
 }
 
 pub refused : Refused
-unfolding ofInt sub mul div add lt nearestN nearestOf limitTo countsFit capacityFits divisionFits zeroRangeFits trackingFits stabilityFits modeFits delaysFit flowFits addressFits analogFits settingsFit settingsOf openOf rawOf weighOf steadiedOf limitOf bookedOf laterGood bookOf closedOf trackedOf setpointsFit nearOf fullOf factsOf waitOf firstFlow afterStart judgedOf moveOf stopSequence landOf advanceOf gatesOf bookedTotals bookedSequence takenBack rulingOf grantedOf settledBy betweenOf clipOf analogOf openState enteredOf weightsOf settledOf servedOf withTracking finishedOf steppedOf endedOf nextOf outputsOf tickOf countIn lineEndOf lineOf kindOf prefixLength isPrefixed lettersOf fieldOf fieldsOf decodeOf bodyOf spokenOf commandOf requestOf digitsOf weightText totalText pointsText refusedText framed replyText shownOf replyDue toldOf dueText lineTickOf writtenOf replyBuffer blockOf
+unfolding ofInt sub mul div add lt nearestN nearestOf limitTo countsFit capacityFits divisionFits zeroRangeFits trackingFits stabilityFits modeFits delaysFit flowFits addressFits analogFits settingsFit settingsOf openOf rawOf weighOf steadiedOf limitOf bookedOf laterGood bookOf closedOf trackedOf setpointsFit nearOf fullOf factsOf waitOf firstFlow afterStart judgedOf moveOf stopSequence landOf advanceOf gatesOf bookedTotals bookedSequence takenBack rulingOf grantedOf decidedOf betweenOf clipOf analogOf openState enteredOf weightsOf settledOf servedOf withTracking finishedOf steppedOf endedOf nextOf outputsOf tickOf countIn lineEndOf lineOf kindOf prefixLength isPrefixed lettersOf fieldOf fieldsOf decodeOf bodyOf spokenOf commandOf requestOf digitsOf weightText totalText pointsText refusedText framed replyText shownOf replyDue toldOf dueText lineTickOf writtenOf replyBuffer blockOf
 refused = record {
   bad = refl;
   overload = refl;
@@ -60,7 +61,7 @@ refused = record {
 }
 
 pub staged : Staged
-unfolding ofInt sub mul div add lt nearestN nearestOf limitTo countsFit capacityFits divisionFits zeroRangeFits trackingFits stabilityFits modeFits delaysFit flowFits addressFits analogFits settingsFit settingsOf openOf rawOf weighOf steadiedOf limitOf bookedOf laterGood bookOf closedOf trackedOf setpointsFit nearOf fullOf factsOf waitOf firstFlow afterStart judgedOf moveOf stopSequence landOf advanceOf gatesOf bookedTotals bookedSequence takenBack rulingOf grantedOf settledBy betweenOf clipOf analogOf openState enteredOf weightsOf settledOf servedOf withTracking finishedOf steppedOf endedOf nextOf outputsOf tickOf countIn lineEndOf lineOf kindOf prefixLength isPrefixed lettersOf fieldOf fieldsOf decodeOf bodyOf spokenOf commandOf requestOf digitsOf weightText totalText pointsText refusedText framed replyText shownOf replyDue toldOf dueText lineTickOf writtenOf replyBuffer blockOf
+unfolding ofInt sub mul div add lt nearestN nearestOf limitTo countsFit capacityFits divisionFits zeroRangeFits trackingFits stabilityFits modeFits delaysFit flowFits addressFits analogFits settingsFit settingsOf openOf rawOf weighOf steadiedOf limitOf bookedOf laterGood bookOf closedOf trackedOf setpointsFit nearOf fullOf factsOf waitOf firstFlow afterStart judgedOf moveOf stopSequence landOf advanceOf gatesOf bookedTotals bookedSequence takenBack rulingOf grantedOf decidedOf betweenOf clipOf analogOf openState enteredOf weightsOf settledOf servedOf withTracking finishedOf steppedOf endedOf nextOf outputsOf tickOf countIn lineEndOf lineOf kindOf prefixLength isPrefixed lettersOf fieldOf fieldsOf decodeOf bodyOf spokenOf commandOf requestOf digitsOf weightText totalText pointsText refusedText framed replyText shownOf replyDue toldOf dueText lineTickOf writtenOf replyBuffer blockOf
 staged = record {
   ok-at-over = refl;
   over = refl;
@@ -85,7 +86,7 @@ staged = record {
 }
 
 pub booked : Booked
-unfolding ofInt sub mul div add lt nearestN nearestOf limitTo countsFit capacityFits divisionFits zeroRangeFits trackingFits stabilityFits modeFits delaysFit flowFits addressFits analogFits settingsFit settingsOf openOf rawOf weighOf steadiedOf limitOf bookedOf laterGood bookOf closedOf trackedOf setpointsFit nearOf fullOf factsOf waitOf firstFlow afterStart judgedOf moveOf stopSequence landOf advanceOf gatesOf bookedTotals bookedSequence takenBack rulingOf grantedOf settledBy betweenOf clipOf analogOf openState enteredOf weightsOf settledOf servedOf withTracking finishedOf steppedOf endedOf nextOf outputsOf tickOf countIn lineEndOf lineOf kindOf prefixLength isPrefixed lettersOf fieldOf fieldsOf decodeOf bodyOf spokenOf commandOf requestOf digitsOf weightText totalText pointsText refusedText framed replyText shownOf replyDue toldOf dueText lineTickOf writtenOf replyBuffer blockOf
+unfolding ofInt sub mul div add lt nearestN nearestOf limitTo countsFit capacityFits divisionFits zeroRangeFits trackingFits stabilityFits modeFits delaysFit flowFits addressFits analogFits settingsFit settingsOf openOf rawOf weighOf steadiedOf limitOf bookedOf laterGood bookOf closedOf trackedOf setpointsFit nearOf fullOf factsOf waitOf firstFlow afterStart judgedOf moveOf stopSequence landOf advanceOf gatesOf bookedTotals bookedSequence takenBack rulingOf grantedOf decidedOf betweenOf clipOf analogOf openState enteredOf weightsOf settledOf servedOf withTracking finishedOf steppedOf endedOf nextOf outputsOf tickOf countIn lineEndOf lineOf kindOf prefixLength isPrefixed lettersOf fieldOf fieldsOf decodeOf bodyOf spokenOf commandOf requestOf digitsOf weightText totalText pointsText refusedText framed replyText shownOf replyDue toldOf dueText lineTickOf writtenOf replyBuffer blockOf
 booked = record {
   first = refl;
   last-booked = refl;

@@ -11,8 +11,8 @@ use Rattle.types.specs.declared.machine.State.{State}
 use Rattle.types.specs.declared.machine.Input.{Input}
 use Rattle.types.specs.declared.lines.LineTick.{LineTick}
 use Rattle.outline.specs.Limits.{blockLimit}
-use Rattle.outline.specs.Tick.{nextOf, tickOf, countIn, blockOf}
-use Rattle.outline.specs.Replies.{askedOf, unaskedOf, dueText, lineTickOf}
+use Rattle.outline.specs.Tick.{nextOf, tickOf, countIn, blockOf, unaskedOf}
+use Rattle.outline.specs.Replies.{askedOf, dueText, lineTickOf}
 use Rattle.outline.specs.Run.{History, _▷_, runOf, thenAll, blockInputs, lineInput}
 use Rattle.outline.specs.StaysTrue.{BlocksAreRuns, LinesAreRuns}
 

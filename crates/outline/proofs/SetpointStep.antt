@@ -10,13 +10,13 @@ use Rattle.types.specs.declared.stages.Setpoints.{Setpoints}
 use Rattle.types.specs.declared.machine.State.{State}
 use Rattle.types.specs.declared.machine.Input.{Input}
 use Rattle.types.specs.declared.machine.Settled.{Settled}
-use Rattle.outline.specs.Requests.{grantedOf, settledBy}
+use Rattle.outline.specs.Requests.{grantedOf, decidedOf}
 use Rattle.outline.specs.Tick.{enteredOf, settledOf, servedOf, steppedOf, finishedOf, withTracking, endedOf, nextOf}
-use Rattle.outline.specs.StaysTrue.{isSet}
+use Rattle.outline.specs.Kinds.{requestKind}
 use Rattle.outline.proofs.Parts.{cond-same, clash}
 
 -- step 4
-granted-setpoints : (st : State) (x : Weights) (r : Request) → isSet r ≡ false → grantedOf st x r .state .setpoints ≡ st .setpoints
+granted-setpoints : (st : State) (x : Weights) (r : Request) → requestKind r .writes ≡ false → grantedOf st x r .state .setpoints ≡ st .setpoints
 unfolding grantedOf
 granted-setpoints st x request.Nothing e = refl
 granted-setpoints st x request.Zero e = refl
@@ -31,15 +31,15 @@ granted-setpoints st x request.ShowGross e = refl
 granted-setpoints st x request.ShowNet e = refl
 granted-setpoints st x request.DayClose e = refl
 
-by-kept : (s : Settings) (st : State) (x : Weights) (r : Request) → isSet r ≡ false → settledBy s st x r .state .setpoints ≡ st .setpoints
-unfolding settledBy
+by-kept : (s : Settings) (st : State) (x : Weights) (r : Request) → requestKind r .writes ≡ false → decidedOf s st x r .state .setpoints ≡ st .setpoints
+unfolding decidedOf
 by-kept s st x r e = simp (granted-setpoints st x r e, cond-same)
 
-by-set : (s : Settings) (st : State) (x : Weights) (r : Request) (p : Setpoints) → r ≡ request.Set p → settledBy s st x r .outcome ≡ outcome.Done → settledBy s st x r .state .setpoints ≡ p
-unfolding settledBy grantedOf
+by-set : (s : Settings) (st : State) (x : Weights) (r : Request) (p : Setpoints) → r ≡ request.Set p → decidedOf s st x r .outcome ≡ outcome.Done → decidedOf s st x r .state .setpoints ≡ p
+unfolding decidedOf grantedOf
 by-set s st x r p e d = rw d (rw e)
 
-pub settled-kept : (s : Settings) (st : State) (i : Input) → isSet (i .request) ≡ false → settledOf s st i .state .setpoints ≡ st .setpoints
+pub settled-kept : (s : Settings) (st : State) (i : Input) → requestKind (i .request) .writes ≡ false → settledOf s st i .state .setpoints ≡ st .setpoints
 unfolding settledOf enteredOf
 settled-kept s st i e = by-kept s _ _ (i .request) e
 
@@ -54,7 +54,7 @@ unfolding endedOf steppedOf finishedOf withTracking
 ended-setpoints s a x = simp cond-same
 
 -- a whole tick
-pub tick-setpoints : (s : Settings) (st : State) (i : Input) → isSet (i .request) ≡ false → nextOf s st i .setpoints ≡ st .setpoints
+pub tick-setpoints : (s : Settings) (st : State) (i : Input) → requestKind (i .request) .writes ≡ false → nextOf s st i .setpoints ≡ st .setpoints
 unfolding nextOf
 tick-setpoints s st i e = ended-setpoints s (settledOf s st i) (servedOf s st i) ∙ settled-kept s st i e
 

@@ -13,14 +13,14 @@ use Rattle.types.specs.declared.requests.Outcome.the-variants as outcome
 use Rattle.types.specs.declared.machine.State.{State}
 use Rattle.outline.specs.Weight.{rawOf}
 use Rattle.outline.specs.DayBook.{bookOf}
-use Rattle.outline.specs.Requests.{grantedOf, settling, settledBy}
+use Rattle.outline.specs.Requests.{grantedOf, unlessRefused, decidedOf}
 use Rattle.outline.specs.Tick.{settledOf, outputsOf, tickOf}
-use Rattle.outline.specs.Run.{unasked}
+use Rattle.outline.specs.Run.{withoutRequest}
 use Rattle.outline.specs.StaysTrue.{Ticket}
 use Rattle.outline.proofs.BookStep.{entered-book, bookTick, tick-book}
 
 -- an accepted close answers the book as step 2 left it
-answered : (o : Outcome) (st : State) (x : Weights) (r : Request) → r ≡ request.DayClose → o ≡ outcome.Done → settling o st (grantedOf st x r) .closed ≡ closed.Day (st .book)
+answered : (o : Outcome) (st : State) (x : Weights) (r : Request) → r ≡ request.DayClose → o ≡ outcome.Done → unlessRefused o st (grantedOf st x r) .closed ≡ closed.Day (st .book)
 unfolding grantedOf
 answered o st x r asks done = rw (done, asks)
 
@@ -30,8 +30,8 @@ unclosed Bad contact b = refl
 unclosed (Tenths x) contact b = refl
 
 pub ticket : Ticket
-unfolding tickOf outputsOf settledOf settledBy
+unfolding tickOf outputsOf settledOf decidedOf
 ticket s st i asks done =
     let raw = rawOf (s .calibration) (i .count) in
     answered _ _ _ (i .request) asks done
-    ∙ ap closed.Day (entered-book s st raw (i .contact) ∙ unclosed raw (i .contact) (st .book) ∙ sym (tick-book s st (unasked i)))
+    ∙ ap closed.Day (entered-book s st raw (i .contact) ∙ unclosed raw (i .contact) (st .book) ∙ sym (tick-book s st (withoutRequest i)))

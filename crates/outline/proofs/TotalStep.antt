@@ -24,9 +24,10 @@ use Rattle.types.specs.declared.machine.Settled.{Settled}
 use Rattle.outline.specs.Limits.{totalLimit, batchLimit}
 use Rattle.outline.specs.Stages.{comparedOf, factsOf, advanceOf}
 use Rattle.outline.specs.Totals.{clearTotals, bookable, grownOf, bookedTotals, noneBack, lessBatch, takenBack}
-use Rattle.outline.specs.Requests.{rulingOf, doneOf, grantedOf, settledBy}
+use Rattle.outline.specs.Requests.{rulingOf, doneOf, grantedOf, decidedOf}
 use Rattle.outline.specs.Tick.{enteredOf, settledOf, servedOf, withTracking, finishedOf, steppedOf, endedOf, nextOf}
-use Rattle.outline.specs.Ledger.{Asked, nothing, undo, clear, asksOf, batchingOf, Ledger, sumN, totalOf, countOf, takeBack, askStep, canBook, finishStep}
+use Rattle.outline.specs.Kinds.{Asked, nothing, undo, clear, requestKind}
+use Rattle.outline.specs.Ledger.{eventOf, Ledger, sumN, totalOf, countOf, takeBack, askStep, canBook, finishStep}
 use Rattle.whole.specs.Chains.{links}
 use Rattle.outline.proofs.Parts.{cond-same, clash}
 
@@ -58,8 +59,8 @@ undo-totals t = go (t .back)
     go batch.Nothing = refl
     go (batch.Weight v) = refl
 
-settled-totals : (s : Settings) (st : State) (x : Weights) (r : Request) → settledBy s st x r .state .totals ≡ askTotals (asksOf r) (st .totals)
-unfolding settledBy rulingOf grantedOf
+settled-totals : (s : Settings) (st : State) (x : Weights) (r : Request) → decidedOf s st x r .state .totals ≡ askTotals (requestKind r .ledger) (st .totals)
+unfolding decidedOf rulingOf grantedOf
 settled-totals s st x request.Nothing = refl
 settled-totals s st x request.Zero = simp cond-same
 settled-totals s st x request.Tare = simp cond-same
@@ -140,14 +141,14 @@ finish-total t l true v h = go (bookable t v) (canBook l v) same refl
 
 -- ---- the whole tick
 module _ (s : Settings) (st : State) (i : Input) where
-  next-totals : nextOf s st i .totals ≡ finishTotals (batchingOf s st i .finished) (batchingOf s st i .weight) (askTotals (batchingOf s st i .asked) (st .totals))
-  unfolding nextOf settledOf enteredOf batchingOf
+  next-totals : nextOf s st i .totals ≡ finishTotals (eventOf s st i .finished) (eventOf s st i .weight) (askTotals (eventOf s st i .asked) (st .totals))
+  unfolding nextOf settledOf enteredOf eventOf
   next-totals =
       ended-totals s (settledOf s st i) (servedOf s st i)
-      ∙ ap (finishTotals (batchingOf s st i .finished) (batchingOf s st i .weight)) (settled-totals s _ _ (i .request))
+      ∙ ap (finishTotals (eventOf s st i .finished) (eventOf s st i .weight)) (settled-totals s _ _ (i .request))
 
   pub tick-totals : (l : Ledger) → Totalled (st .totals) l →
-      Totalled (nextOf s st i .totals) (finishStep (batchingOf s st i .finished) (batchingOf s st i .weight) (askStep (batchingOf s st i .asked) l))
+      Totalled (nextOf s st i .totals) (finishStep (eventOf s st i .finished) (eventOf s st i .weight) (askStep (eventOf s st i .asked) l))
   tick-totals l h =
-      let b = batchingOf s st i in
+      let b = eventOf s st i in
       rw next-totals (finish-total _ _ (b .finished) (b .weight) (ask-total _ _ (b .asked) h))

@@ -25,9 +25,10 @@ use Rattle.types.specs.declared.machine.Settled.{Settled}
 use Rattle.outline.specs.Settings.{within}
 use Rattle.outline.specs.Weight.{rawOf, weighOf}
 use Rattle.outline.specs.Zero.{inZeroRange, trackingOn, calmOf, mayMove, withCounter, movedOf, countedUp, trackedOf}
-use Rattle.outline.specs.Requests.{idleNow, rulingOf, doneOf, grantedOf, settledBy}
+use Rattle.outline.specs.Requests.{idleNow, rulingOf, doneOf, grantedOf, decidedOf}
 use Rattle.outline.specs.Tick.{enteredOf, weightsOf, settledOf, servedOf, withTracking, finishedOf, steppedOf, endedOf, nextOf}
-use Rattle.outline.specs.Zeroing.{asksZero, seenOf, Zeroing, sumOf, AllWithin, inForce, isCalm, calmStep, restless, zeroStep}
+use Rattle.outline.specs.Kinds.{requestKind}
+use Rattle.outline.specs.Zeroing.{seenOf, Zeroing, sumOf, AllWithin, inForce, isCalm, calmStep, restless, zeroStep}
 use Rattle.whole.specs.Chains.{and-left, and-right}
 use Rattle.outline.proofs.Parts.{cond-same, and-no, and-yes, clash, plus-nought}
 
@@ -69,8 +70,8 @@ granted-zeros st x request.ShowNet = refl
 granted-zeros st x request.DayClose = refl
 
 settled-zeros : (s : Settings) (st : State) (x : Weights) (r : Request) →
-    zerosOf (settledBy s st x r .state .weighing) ≡ keyedZeros (settledBy s st x r .keyed) (x .raw) (zerosOf (st .weighing))
-unfolding settledBy
+    zerosOf (decidedOf s st x r .state .weighing) ≡ keyedZeros (decidedOf s st x r .keyed) (x .raw) (zerosOf (st .weighing))
+unfolding decidedOf
 settled-zeros s st x r = go (doneOf (rulingOf s st x r))
   where
     go : (t : Bool) →
@@ -80,7 +81,7 @@ settled-zeros s st x r = go (doneOf (rulingOf s st x r))
     go false = refl
 
 -- it is keyed where the history says so
-granted-keyed : (st : State) (x : Weights) (r : Request) → grantedOf st x r .keyed ≡ asksZero r
+granted-keyed : (st : State) (x : Weights) (r : Request) → grantedOf st x r .keyed ≡ requestKind r .zeroes
 unfolding grantedOf
 granted-keyed st x request.Nothing = refl
 granted-keyed st x request.Zero = refl
@@ -96,13 +97,13 @@ granted-keyed st x request.ShowNet = refl
 granted-keyed st x request.DayClose = refl
 
 settled-keyed : (s : Settings) (st : State) (x : Weights) (r : Request) →
-    settledBy s st x r .keyed ≡ doneOf (settledBy s st x r .outcome) && asksZero r
-unfolding settledBy
+    decidedOf s st x r .keyed ≡ doneOf (decidedOf s st x r .outcome) && requestKind r .zeroes
+unfolding decidedOf
 settled-keyed s st x r = rw (granted-keyed st x r)
 
 -- and never at a bad tick
-bad-unkeyed : (s : Settings) (st : State) (x : Weights) (r : Request) → x .good ≡ false → settledBy s st x r .keyed ≡ false
-unfolding settledBy rulingOf grantedOf
+bad-unkeyed : (s : Settings) (st : State) (x : Weights) (r : Request) → x .good ≡ false → decidedOf s st x r .keyed ≡ false
+unfolding decidedOf rulingOf grantedOf
 bad-unkeyed s st x request.Nothing h = refl
 bad-unkeyed s st x request.Zero h = simp h
 bad-unkeyed s st x request.Tare h = simp and-no

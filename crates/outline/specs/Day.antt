@@ -6,30 +6,15 @@ use lib.Dec.{leb}
 use lib.IntN.{ℤ, pos, negℤ, natAbs, _+ℤ_, _-ℤ_}
 use Rattle.types.specs.declared.settings.Calibration.{Calibration}
 use Rattle.types.specs.declared.daybook.Book.{Book}
-use Rattle.types.specs.declared.requests.Request.{Request}
-use Rattle.types.specs.declared.requests.Request.the-variants as request
 use Rattle.types.specs.declared.machine.Input.{Input}
 use Rattle.outline.specs.Limits.{countLimit, dayTicks}
 use Rattle.outline.specs.Weight.{tenthsOf}
+use Rattle.outline.specs.Kinds.{requestKind}
 use Rattle.outline.specs.Run.{History, start, _▷_}
 
 -- ---- the tape: what the day book may know of a tick
 abbrev pub goodOf : ℤ → Bool
 goodOf count = leb (natAbs count) countLimit
-
-abbrev pub asksClose : Request → Bool
-asksClose request.Nothing = false
-asksClose request.Zero = false
-asksClose request.Tare = false
-asksClose request.TareClear = false
-asksClose request.Start = false
-asksClose request.Stop = false
-asksClose (request.Set p) = false
-asksClose request.TotalClear = false
-asksClose request.Undo = false
-asksClose request.ShowGross = false
-asksClose request.ShowNet = false
-asksClose request.DayClose = true
 
 pub record Noted : Type 0 where
   pub count : ℤ
@@ -38,7 +23,7 @@ pub record Noted : Type 0 where
 
 -- a day close is accepted in every good tick
 abbrev pub noted : Input → Noted
-noted i = record { count = i .count; contact = i .contact; closes = goodOf (i .count) && asksClose (i .request) }
+noted i = record { count = i .count; contact = i .contact; closes = goodOf (i .count) && requestKind (i .request) .closes }
 
 abbrev pub tapeOf : History Input → History Noted
 tapeOf start = start

@@ -5,7 +5,7 @@ use mathlib.Core.Path.{_≡_}
 use mathlib.Core.Bool.{Bool, true, false, not, _&&_}
 use mathlib.Core.List.{List, [], _∷_, foldl}
 use lib.ListN.{replicate, getD, set}
-use lib.IntN.{ℤ, pos, negsuc, _+ℤ_, _-ℤ_}
+use lib.IntN.{ℤ, pos, negℤ, _+ℤ_, _-ℤ_}
 use lib.Ieee.{fin}
 use Rattle.types.specs.declared.settings.Given.{Given}
 use Rattle.types.specs.declared.settings.Settings.{Settings}
@@ -20,6 +20,10 @@ use Rattle.types.specs.declared.machine.Ticked.{Ticked}
 use Rattle.outline.specs.Settings.{settingsFit, settingsOf, openOf}
 use Rattle.outline.specs.Tick.{openState, openedOf, tickOf, countIn}
 use Rattle.outline.specs.Numbers.{openingNumber, outcomeNumber, closedValues}
+
+-- a figure below zero, as an engineer writes it
+abbrev pub minus : ℕ → ℤ
+minus n = negℤ (pos n)
 
 -- ---- settings A
 -- settings as a list, in the order of the outline's table
@@ -105,7 +109,7 @@ pub record Starred : Type 0 where
   -- "| count 44; 45; -45 * | 4; 5; -5 |"
   pub count-44 : told settingsA openState (pos 44) request.Nothing .reading .gross ≡ pos 4
   pub count-45 : told settingsA openState (pos 45) request.Nothing .reading .gross ≡ pos 5
-  pub count-minus-45 : told settingsA openState (negsuc 44) request.Nothing .reading .gross ≡ negsuc 4
+  pub count-minus-45 : told settingsA openState (minus 45) request.Nothing .reading .gross ≡ minus 5
   -- "| 45 with d 5 * | 25 |"
   pub count-45-with-d-5 : told settingsD5 openState (pos 45) request.Nothing .reading .gross ≡ pos 25
   -- "| 100,084; 100,085 * | 10,008; overload |"
@@ -132,22 +136,22 @@ abbrev pub fallTo : State → ℤ → State
 fallTo st count = held 100 st count
 
 abbrev pub fourFalls : State
-fourFalls = fallTo (fallTo (fallTo (fallTo (next openState (pos 0) request.Nothing) (negsuc 4)) (negsuc 9)) (negsuc 14)) (negsuc 19)
+fourFalls = fallTo (fallTo (fallTo (fallTo (next openState (pos 0) request.Nothing) (minus 5)) (minus 10)) (minus 15)) (minus 20)
 
 -- the last tick of all, the 501st
 abbrev pub lastOfFalls : Ticked
-lastOfFalls = tickAt settingsA (held 99 fourFalls (negsuc 24)) (negsuc 24) request.Nothing
+lastOfFalls = tickAt settingsA (held 99 fourFalls (minus 25)) (minus 25) request.Nothing
 
 -- "Input `0 0 --`, `-30 0 --`, `100 1 --`, `60 0 DC`"
 abbrev pub beforeClose : State
 beforeClose =
-    let two = next (next openState (pos 0) request.Nothing) (negsuc 29) request.Nothing in
+    let two = next (next openState (pos 0) request.Nothing) (minus 30) request.Nothing in
     tickOf settingsA two (record { count = pos 100; contact = true; request = request.Nothing }) .state
 
 pub record Runs : Type 0 where
   -- "| one tick at 0, five falls of 5, each held 100 ticks | zero -20, gross -1, used 25 |"
-  pub zero-after-falls : lastOfFalls .state .weighing .zero ≡ negsuc 19
-  pub gross-after-falls : lastOfFalls .answer .reading .gross ≡ negsuc 0
+  pub zero-after-falls : lastOfFalls .state .weighing .zero ≡ minus 20
+  pub gross-after-falls : lastOfFalls .answer .reading .gross ≡ minus 1
   pub used-after-falls : lastOfFalls .state .book .used ≡ pos 25
   -- the ticket: opening 0, refilled 130, used 70, unbooked 0, closing 60
   pub ticket :
@@ -166,11 +170,11 @@ ends n a b = record { place = n; least = a; most = b }
 -- Z and S have one side each that hangs on S - Z; C and W one that hangs on each other, taken at settings A
 abbrev pub tableEnds : List Ends
 tableEnds =
-    ends 0 (negsuc 1999999) (pos 0) ∷ ends 1 (pos 100000) (pos 2000000) ∷ ends 2 (pos 10000) (pos 16000) ∷ ends 3 (pos 1) (pos 10000)
+    ends 0 (minus 2000000) (pos 0) ∷ ends 1 (pos 100000) (pos 2000000) ∷ ends 2 (pos 10000) (pos 16000) ∷ ends 3 (pos 1) (pos 10000)
     ∷ ends 5 (pos 1) (pos 30) ∷ ends 6 (pos 0) (pos 500) ∷ ends 7 (pos 0) (pos 45) ∷ ends 8 (pos 0) (pos 10000)
     ∷ ends 9 (pos 10) (pos 500) ∷ ends 10 (pos 0) (pos 9) ∷ ends 11 (pos 1) (pos 2) ∷ ends 12 (pos 0) (pos 9999)
     ∷ ends 13 (pos 0) (pos 9999) ∷ ends 14 (pos 0) (pos 9999) ∷ ends 15 (pos 0) (pos 9999) ∷ ends 16 (pos 0) (pos 9999)
-    ∷ ends 17 (pos 1) (pos 60000) ∷ ends 18 (pos 0) (pos 99) ∷ ends 19 (pos 0) (pos 2) ∷ ends 20 (negsuc 999998) (pos 9999)
+    ∷ ends 17 (pos 1) (pos 60000) ∷ ends 18 (pos 0) (pos 99) ∷ ends 19 (pos 0) (pos 2) ∷ ends 20 (minus 999999) (pos 9999)
     ∷ ends 21 (pos 1) (pos 999999) ∷ []
 
 abbrev pub fits : ℕ → ℤ → Bool
@@ -195,6 +199,6 @@ divisionsFrom n (suc k) = pick (fits 4 (pos n)) n (divisionsFrom (suc n) k)
 
 pub record Table : Type 0 where
   pub ranges : all tableEnds ≡ true
-  pub high-end-below : fits 21 (negsuc 999998) ≡ true
+  pub high-end-below : fits 21 (minus 999999) ≡ true
   pub equal-ends : fits 21 (pos 0) ≡ false
   pub divisions : divisionsFrom 0 60 ≡ 1 ∷ 2 ∷ 5 ∷ 10 ∷ 20 ∷ 50 ∷ []

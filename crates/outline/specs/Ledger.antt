@@ -7,8 +7,6 @@ use lib.ListN.{length}
 use lib.IntN.{ℤ, natAbs}
 use lib.Signed.{nonNeg}
 use Rattle.types.specs.declared.settings.Settings.{Settings}
-use Rattle.types.specs.declared.requests.Request.{Request}
-use Rattle.types.specs.declared.requests.Request.the-variants as request
 use Rattle.types.specs.declared.stages.Batch.{Batch}
 use Rattle.types.specs.declared.stages.Batch.the-variants as batch
 use Rattle.types.specs.declared.machine.State.{State}
@@ -16,48 +14,29 @@ use Rattle.types.specs.declared.machine.Input.{Input}
 use Rattle.outline.specs.Limits.{totalLimit, batchLimit}
 use Rattle.outline.specs.Stages.{comparedOf, factsOf, advanceOf}
 use Rattle.outline.specs.Tick.{settledOf, servedOf}
+use Rattle.outline.specs.Kinds.{Asked, nothing, undo, clear, requestKind}
 use Rattle.outline.specs.Run.{History, start, _▷_, runOf}
 
--- what a tick asks of the ledger
-pub data Asked : Type 0 where
-  nothing : Asked
-  undo : Asked
-  clear : Asked
-
-abbrev pub asksOf : Request → Asked
-asksOf request.Nothing = nothing
-asksOf request.Zero = nothing
-asksOf request.Tare = nothing
-asksOf request.TareClear = nothing
-asksOf request.Start = nothing
-asksOf request.Stop = nothing
-asksOf (request.Set p) = nothing
-asksOf request.TotalClear = clear
-asksOf request.Undo = undo
-asksOf request.ShowGross = nothing
-asksOf request.ShowNet = nothing
-asksOf request.DayClose = nothing
-
 -- a tick: what it asks, and whether a batch finished at it, with which compared weight
-pub record Batching : Type 0 where
+pub record Event : Type 0 where
   pub asked : Asked
   pub finished : Bool
   pub weight : ℤ
 
-unfoldable pub batchingOf : Settings → State → Input → Batching
-batchingOf s st i =
+unfoldable pub eventOf : Settings → State → Input → Event
+eventOf s st i =
     let a = settledOf s st i in
     let x = servedOf s st i in
     let p = a .state .setpoints in
     record {
-      asked = asksOf (i .request);
+      asked = requestKind (i .request) .ledger;
       finished = not (a .held) && advanceOf (s .batching) p (a .state .sequence) (factsOf (s .batching .mode) p x) .finished;
       weight = comparedOf (s .batching .mode) x;
     }
 
-abbrev pub batchRun : Settings → History Input → History Batching
-batchRun s start = start
-batchRun s (h ▷ i) = batchRun s h ▷ batchingOf s (runOf s h) i
+abbrev pub eventRun : Settings → History Input → History Event
+eventRun s start = start
+eventRun s (h ▷ i) = eventRun s h ▷ eventOf s (runOf s h) i
 
 -- the batches booked since the last clear, those taken back since then, and the one that can still be taken back
 pub record Ledger : Type 0 where
@@ -92,6 +71,6 @@ abbrev pub finishStep : Bool → ℤ → Ledger → Ledger
 finishStep false v l = l
 finishStep true v l = cond (canBook l v) (record { booked = natAbs v ∷ l .booked; taken = l .taken; back = batch.Weight (natAbs v) }) l
 
-abbrev pub ledgerOf : History Batching → Ledger
+abbrev pub ledgerOf : History Event → Ledger
 ledgerOf start = record { booked = []; taken = []; back = batch.Nothing }
 ledgerOf (h ▷ t) = finishStep (t .finished) (t .weight) (askStep (t .asked) (ledgerOf h))

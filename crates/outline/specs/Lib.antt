@@ -14,6 +14,8 @@ pub mod Tick
 pub mod Numbers
 pub mod Lines
 pub mod Replies
+pub mod Texts
+pub mod Lengths
 pub mod Log
 -- what is shown of them
 pub mod Figures
@@ -23,11 +25,15 @@ pub mod Rules
 pub mod Owed
 pub mod AnalogOwed
 -- runs, their histories, and what stays true over them
+pub mod Kinds
 pub mod Run
 pub mod Day
 pub mod Zeroing
 pub mod Ledger
 pub mod Ranges
 pub mod StaysTrue
--- a law that the code's proofs cite
+pub mod EveryLine
+-- laws that the code's proofs cite
 pub mod Within
+pub mod Steps
+pub mod Reads

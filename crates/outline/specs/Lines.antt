@@ -4,8 +4,6 @@ use mathlib.Core.List.{List, [], _∷_}
 use mathlib.Core.Bool.{Bool, true, cond, _&&_}
 use lib.ListN.{length, getD, take, drop}
 use lib.Dec.{leb, ltb, eqb}
-use Rattle.types.specs.declared.requests.Request.{Request}
-use Rattle.types.specs.declared.requests.Request.the-variants as request
 use Rattle.types.specs.declared.lines.LineEnd.{LineEnd}
 use Rattle.types.specs.declared.lines.LineEnd.the-variants.{Missing, Beyond, At}
 use Rattle.types.specs.declared.lines.LineKind.{LineKind}
@@ -179,29 +177,3 @@ commandAt kind.Text spoken = spoken
 
 unfoldable pub commandOf : List ℕ → ℕ → Command
 commandOf buffer address = commandAt (kindOf buffer) (spokenOf (lineOf buffer) address)
-
--- ---- "A line comes with a tick and is that tick's request": "CT, DT, CA are tare clear, total clear, undo." A read asks for nothing.
-abbrev pub wordRequest : Word → Request
-wordRequest word.ReadWeight = request.Nothing
-wordRequest word.ReadTotal = request.Nothing
-wordRequest word.ReadSetpoints = request.Nothing
-wordRequest word.Zero = request.Zero
-wordRequest word.Tare = request.Tare
-wordRequest word.TareClear = request.TareClear
-wordRequest word.ShowGross = request.ShowGross
-wordRequest word.ShowNet = request.ShowNet
-wordRequest word.Start = request.Start
-wordRequest word.Stop = request.Stop
-wordRequest word.TotalClear = request.TotalClear
-wordRequest word.Undo = request.Undo
-wordRequest word.DayClose = request.DayClose
-
--- "After any of 11 to 14 the request is not done and the tick runs as if it had none."
-unfoldable pub requestOf : Command → Request
-requestOf (command.Do w) = wordRequest w
-requestOf (command.Set p) = request.Set p
-requestOf command.NoLine = request.Nothing
-requestOf command.LongLine = request.Nothing
-requestOf command.OtherAddress = request.Nothing
-requestOf command.Malformed = request.Nothing
-requestOf command.Unknown = request.Nothing

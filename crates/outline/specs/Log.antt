@@ -15,8 +15,8 @@ use Rattle.types.specs.declared.log.LogNumber.the-variants as number
 use Rattle.types.specs.declared.log.LogLine.{LogLine}
 use Rattle.outline.specs.Limits.{numberDigits, requestLimit}
 use Rattle.outline.specs.Lines.{isDigit}
-use Rattle.outline.specs.Tick.{tickOf}
-use Rattle.outline.specs.Replies.{unaskedOf, lineTicked, lineTickOf, replyBuffer}
+use Rattle.outline.specs.Tick.{tickOf, unaskedOf}
+use Rattle.outline.specs.Replies.{lineTicked, lineTickOf, replyBuffer}
 
 -- ---- a whole number
 -- "an optional minus"
@@ -80,12 +80,12 @@ isNone request = eqb (length request) 2 && eqb (getD request 0 0) 45 && eqb (get
 
 -- ---- its tick
 -- "given with CR LF"
-abbrev pub lineOf : List ℕ → List ℕ
-lineOf command = command ++ (13 ∷ 10 ∷ [])
+abbrev pub withCrLf : List ℕ → List ℕ
+withCrLf command = command ++ (13 ∷ 10 ∷ [])
 
 -- "a serial command of 1 to 100 bytes": no line that can be read has a longer one
 abbrev pub receivedOf : List ℕ → List ℕ
-receivedOf request = lineOf (take requestLimit request)
+receivedOf request = withCrLf (take requestLimit request)
 
 -- the tick of a count, a contact and a request; without a request it has no line and no reply
 unfoldable pub requestTick : Settings → State → ℤ → Bool → List ℕ → List ℕ → LineTick

@@ -3,14 +3,15 @@ use mathlib.Core.Path.{_≡_}
 use mathlib.Core.Bool.{true, false}
 use mathlib.Core.List.{List, [], _∷_, _++_}
 use lib.ListN.{replicate}
-use lib.IntN.{pos, negsuc}
+use lib.IntN.{pos}
+use Rattle.outline.specs.Figures.{minus}
 use Rattle.outline.specs.Log.{tickLine, unreadable, logLineOf, isNone}
 use Rattle.outline.specs.Worked.{ascii}
 
 pub record Logs : Type 0 where
   -- the outline's own lines
   pub first : logLineOf (ascii "0 0 --") ≡ tickLine (pos 0) false 4
-  pub minus : logLineOf (ascii "-30 0 --") ≡ tickLine (negsuc 29) false 6
+  pub minus : logLineOf (ascii "-30 0 --") ≡ tickLine (minus 30) false 6
   pub closed : logLineOf (ascii "100 1 --") ≡ tickLine (pos 100) true 6
   pub close : logLineOf (ascii "60 0 DC") ≡ tickLine (pos 60) false 5
   -- what else can be read

@@ -1,22 +1,22 @@
 -- The outline's section "Serial lines", second part: the bytes of each reply, the caller's reply buffer, and the tick with a line.
 use Prim.Native.Nat.{ℕ, zero, suc, _/_, _%_}
 use mathlib.Core.List.{List, [], _∷_, _++_}
-use mathlib.Core.Bool.{Bool, true, false, cond, _&&_}
+use mathlib.Core.Bool.{Bool, true, false, cond, not, _&&_}
 use lib.ListN.{length, drop, replicate}
 use lib.Dec.{leb}
 use lib.IntN.{ℤ, pos, natAbs}
 use lib.Signed.{ltZ}
 use Rattle.types.specs.declared.settings.Settings.{Settings}
-use Rattle.types.specs.declared.weight.Weights.{Weights}
 use Rattle.types.specs.declared.weight.Display.{Display}
 use Rattle.types.specs.declared.weight.Display.the-variants as display
 use Rattle.types.specs.declared.stages.Setpoints.{Setpoints}
+use Rattle.types.specs.declared.requests.Request.{Request}
 use Rattle.types.specs.declared.requests.Request.the-variants as request
 use Rattle.types.specs.declared.requests.Outcome.{Outcome}
 use Rattle.types.specs.declared.requests.Outcome.the-variants as outcome
 use Rattle.types.specs.declared.machine.State.{State}
 use Rattle.types.specs.declared.machine.Input.{Input}
-use Rattle.types.specs.declared.machine.Settled.{Settled}
+use Rattle.types.specs.declared.machine.Reading.{Reading}
 use Rattle.types.specs.declared.machine.Ticked.{Ticked}
 use Rattle.types.specs.declared.lines.Word.{Word}
 use Rattle.types.specs.declared.lines.Word.the-variants as word
@@ -28,9 +28,8 @@ use Rattle.types.specs.declared.lines.Reply.the-variants as reply
 use Rattle.types.specs.declared.lines.LineAnswer.{LineAnswer}
 use Rattle.types.specs.declared.lines.LineAnswer.the-variants as told
 use Rattle.types.specs.declared.lines.LineTick.{LineTick}
-use Rattle.outline.specs.Weight.{fitOf, displayedOf}
-use Rattle.outline.specs.Tick.{settledOf, servedOf, tickOf}
-use Rattle.outline.specs.Lines.{hasPrefix, tensDigit, unitsDigit, lettersFor, setLetters, commandOf, requestOf}
+use Rattle.outline.specs.Tick.{settledOf, servedOf, readingOf, unaskedOf, tickOf}
+use Rattle.outline.specs.Lines.{hasPrefix, tensDigit, unitsDigit, lettersFor, setLetters, commandOf}
 use Rattle.outline.specs.Numbers.{refusalNumber, toldNumber}
 
 -- ---- texts
@@ -96,19 +95,53 @@ replyText address (reply.Total total count) = framed address (totalText total co
 replyText address (reply.Points p) = framed address (pointsText p)
 replyText address (reply.Refused n) = framed address (refusedText n)
 
--- ---- the reply due
+-- ---- what a command asks of its tick, what reply is due to it, what it is told
+-- "A line comes with a tick and is that tick's request": "CT, DT, CA are tare clear, total clear, undo." A read asks for nothing.
+abbrev pub wordRequest : Word → Request
+wordRequest word.ReadWeight = request.Nothing
+wordRequest word.ReadTotal = request.Nothing
+wordRequest word.ReadSetpoints = request.Nothing
+wordRequest word.Zero = request.Zero
+wordRequest word.Tare = request.Tare
+wordRequest word.TareClear = request.TareClear
+wordRequest word.ShowGross = request.ShowGross
+wordRequest word.ShowNet = request.ShowNet
+wordRequest word.Start = request.Start
+wordRequest word.Stop = request.Stop
+wordRequest word.TotalClear = request.TotalClear
+wordRequest word.Undo = request.Undo
+wordRequest word.DayClose = request.DayClose
+
+-- "After any of 11 to 14 the request is not done and the tick runs as if it had none."
+unfoldable pub requestOf : Command → Request
+requestOf (command.Do w) = wordRequest w
+requestOf (command.Set p) = request.Set p
+requestOf command.NoLine = request.Nothing
+requestOf command.LongLine = request.Nothing
+requestOf command.OtherAddress = request.Nothing
+requestOf command.Malformed = request.Nothing
+requestOf command.Unknown = request.Nothing
+
 abbrev pub showsNet : Display → Bool
 showsNet display.Gross = false
 showsNet display.Net = true
 
+-- a good tick without overload
+abbrev pub isFit : Reading → Bool
+isFit x = x .good && not (x .overload)
+
+abbrev pub shownWeight : Display → Reading → ℤ
+shownWeight display.Gross x = x .gross
+shownWeight display.Net x = x .net
+
 -- "the displayed weight, plus for 0"; where OL stands "the sign minus only for negative overload", which is of gross
-unfoldable pub shownOf : Display → Weights → Shown
+unfoldable pub shownOf : Display → Reading → Shown
 shownOf d x = record {
-  fit = fitOf x;
+  fit = isFit x;
   stable = x .stable;
   net = showsNet d;
-  negative = cond (fitOf x) (ltZ (displayedOf d x) (pos 0)) (x .overload && ltZ (x .gross) (pos 0));
-  amount = natAbs (displayedOf d x);
+  negative = cond (isFit x) (ltZ (shownWeight d x) (pos 0)) (x .overload && ltZ (x .gross) (pos 0));
+  amount = natAbs (shownWeight d x);
 }
 
 -- "an accepted request its two letters; a refused one NG and two digits"
@@ -116,31 +149,31 @@ abbrev pub requestReply : ℕ → Outcome → Reply
 requestReply k outcome.Done = reply.Letters k
 requestReply k (outcome.Refused n) = reply.Refused (refusalNumber n)
 
--- "a read shows the state as step 4 leaves it"
-abbrev pub wordReply : Word → Settled → Weights → Reply
-wordReply word.ReadWeight a x = reply.Weight (shownOf (a .state .display) x)
-wordReply word.ReadTotal a x = reply.Total (a .state .totals .total) (a .state .totals .count)
-wordReply word.ReadSetpoints a x = reply.Points (a .state .setpoints)
-wordReply word.Zero a x = requestReply (lettersFor word.Zero) (a .outcome)
-wordReply word.Tare a x = requestReply (lettersFor word.Tare) (a .outcome)
-wordReply word.TareClear a x = requestReply (lettersFor word.TareClear) (a .outcome)
-wordReply word.ShowGross a x = requestReply (lettersFor word.ShowGross) (a .outcome)
-wordReply word.ShowNet a x = requestReply (lettersFor word.ShowNet) (a .outcome)
-wordReply word.Start a x = requestReply (lettersFor word.Start) (a .outcome)
-wordReply word.Stop a x = requestReply (lettersFor word.Stop) (a .outcome)
-wordReply word.TotalClear a x = requestReply (lettersFor word.TotalClear) (a .outcome)
-wordReply word.Undo a x = requestReply (lettersFor word.Undo) (a .outcome)
-wordReply word.DayClose a x = requestReply (lettersFor word.DayClose) (a .outcome)
+-- "a read shows the state as step 4 leaves it", and the weights that serve its tick
+abbrev pub wordReply : Word → State → Reading → Outcome → Reply
+wordReply word.ReadWeight st x o = reply.Weight (shownOf (st .display) x)
+wordReply word.ReadTotal st x o = reply.Total (st .totals .total) (st .totals .count)
+wordReply word.ReadSetpoints st x o = reply.Points (st .setpoints)
+wordReply word.Zero st x o = requestReply (lettersFor word.Zero) o
+wordReply word.Tare st x o = requestReply (lettersFor word.Tare) o
+wordReply word.TareClear st x o = requestReply (lettersFor word.TareClear) o
+wordReply word.ShowGross st x o = requestReply (lettersFor word.ShowGross) o
+wordReply word.ShowNet st x o = requestReply (lettersFor word.ShowNet) o
+wordReply word.Start st x o = requestReply (lettersFor word.Start) o
+wordReply word.Stop st x o = requestReply (lettersFor word.Stop) o
+wordReply word.TotalClear st x o = requestReply (lettersFor word.TotalClear) o
+wordReply word.Undo st x o = requestReply (lettersFor word.Undo) o
+wordReply word.DayClose st x o = requestReply (lettersFor word.DayClose) o
 
 -- "A 12, no line and a line over 64 bytes have an empty reply; another 11, and 13, reply with NG and the number."
-unfoldable pub replyDue : Command → Settled → Weights → Reply
-replyDue (command.Do w) a x = wordReply w a x
-replyDue (command.Set p) a x = requestReply setLetters (a .outcome)
-replyDue command.NoLine a x = reply.Silent
-replyDue command.LongLine a x = reply.Silent
-replyDue command.OtherAddress a x = reply.Silent
-replyDue command.Malformed a x = reply.Refused (toldNumber told.Malformed)
-replyDue command.Unknown a x = reply.Refused (toldNumber told.Unknown)
+unfoldable pub replyDue : Command → State → Reading → Outcome → Reply
+replyDue (command.Do w) st x o = wordReply w st x o
+replyDue (command.Set p) st x o = requestReply setLetters o
+replyDue command.NoLine st x o = reply.Silent
+replyDue command.LongLine st x o = reply.Silent
+replyDue command.OtherAddress st x o = reply.Silent
+replyDue command.Malformed st x o = reply.Refused (toldNumber told.Malformed)
+replyDue command.Unknown st x o = reply.Refused (toldNumber told.Unknown)
 
 -- what the line is answered, where the reply due fits
 abbrev pub outcomeTold : Outcome → LineAnswer
@@ -161,15 +194,12 @@ toldOf command.Unknown o = told.Unknown
 abbrev pub askedOf : Settings → ℤ → Bool → List ℕ → Input
 askedOf s count contact receive = record { count = count; contact = contact; request = requestOf (commandOf receive (s .address)) }
 
--- the tick as if it had no request
-abbrev pub unaskedOf : ℤ → Bool → Input
-unaskedOf count contact = record { count = count; contact = contact; request = request.Nothing }
-
 -- the bytes of the reply due to the line
 unfoldable pub dueText : Settings → State → ℤ → Bool → List ℕ → List ℕ
 dueText s st count contact receive =
     let i = askedOf s count contact receive in
-    replyText (s .address) (replyDue (commandOf receive (s .address)) (settledOf s st i) (servedOf s st i))
+    let a = settledOf s st i in
+    replyText (s .address) (replyDue (commandOf receive (s .address)) (a .state) (readingOf (servedOf s st i)) (a .outcome))
 
 abbrev pub lineTicked : LineAnswer → ℕ → Ticked → LineTick
 lineTicked t n tick = record { told = t; length = n; answer = tick .answer; state = tick .state }

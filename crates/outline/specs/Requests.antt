@@ -2,6 +2,8 @@
 use mathlib.Core.Bool.{Bool, true, false, cond, not, _&&_}
 use mathlib.Core.List.{List, [], _∷_}
 use lib.IntN.{pos}
+use Rattle.types.specs.declared.settings.Range.{Range}
+use Rattle.types.specs.declared.settings.Mode.{Mode}
 use Rattle.types.specs.declared.settings.Settings.{Settings}
 use Rattle.types.specs.declared.weight.Weights.{Weights}
 use Rattle.types.specs.declared.weight.Display.the-variants as display
@@ -12,6 +14,8 @@ use Rattle.types.specs.declared.requests.Refusal.{Refusal}
 use Rattle.types.specs.declared.requests.Refusal.the-variants as refusal
 use Rattle.types.specs.declared.requests.Outcome.{Outcome}
 use Rattle.types.specs.declared.requests.Outcome.the-variants as outcome
+use Rattle.types.specs.declared.stages.Sequence.{Sequence}
+use Rattle.types.specs.declared.stages.Totals.{Totals}
 use Rattle.types.specs.declared.machine.State.{State}
 use Rattle.types.specs.declared.machine.Settled.{Settled}
 use Rattle.outline.specs.DayBook.{closedOf}
@@ -39,8 +43,8 @@ abbrev pub row2 : Weights → Row
 row2 x = record { number = refusal.Overload; applies = x .overload }
 
 -- "| 3 | stage is not 00 |"
-abbrev pub row3 : State → Row
-row3 st = record { number = refusal.NotIdle; applies = not (idleNow st) }
+abbrev pub row3 : Sequence → Row
+row3 q = record { number = refusal.NotIdle; applies = not (idleOf (q .stage)) }
 
 -- "| 4 | not stable |"
 abbrev pub row4 : Weights → Row
@@ -55,24 +59,24 @@ abbrev pub row6 : Bool → Row
 row6 kept = record { number = refusal.SetpointRules; applies = not kept }
 
 -- "| 7 | nothing to take back |"
-abbrev pub row7 : State → Row
-row7 st = record { number = refusal.NothingToTakeBack; applies = noneBack (st .totals .back) }
+abbrev pub row7 : Totals → Row
+row7 t = record { number = refusal.NothingToTakeBack; applies = noneBack (t .back) }
 
 -- The column "To", turned: the rows that each request can meet, in numerical order. "Stop, total clear, show gross and show net are
 -- never refused here."
-abbrev pub rowsTo : Settings → State → Weights → Request → List Row
-rowsTo s st x request.Nothing = []
-rowsTo s st x request.Zero = row1 x ∷ row2 x ∷ row3 st ∷ row4 x ∷ row5 (inZeroRange (s .range) (x .raw)) ∷ []
-rowsTo s st x request.Tare = row1 x ∷ row2 x ∷ row3 st ∷ row4 x ∷ row5 (inTareRange (s .range) (x .divisions)) ∷ []
-rowsTo s st x request.TareClear = row3 st ∷ []
-rowsTo s st x request.Start = row1 x ∷ row2 x ∷ row3 st ∷ []
-rowsTo s st x request.Stop = []
-rowsTo s st x (request.Set p) = row3 st ∷ row6 (setpointsFit (s .batching .mode) p) ∷ []
-rowsTo s st x request.TotalClear = []
-rowsTo s st x request.Undo = row7 st ∷ []
-rowsTo s st x request.ShowGross = []
-rowsTo s st x request.ShowNet = []
-rowsTo s st x request.DayClose = row1 x ∷ []
+abbrev pub rowsTo : Range → Mode → Sequence → Totals → Weights → Request → List Row
+rowsTo range mode q t x request.Nothing = []
+rowsTo range mode q t x request.Zero = row1 x ∷ row2 x ∷ row3 q ∷ row4 x ∷ row5 (inZeroRange range (x .raw)) ∷ []
+rowsTo range mode q t x request.Tare = row1 x ∷ row2 x ∷ row3 q ∷ row4 x ∷ row5 (inTareRange range (x .divisions)) ∷ []
+rowsTo range mode q t x request.TareClear = row3 q ∷ []
+rowsTo range mode q t x request.Start = row1 x ∷ row2 x ∷ row3 q ∷ []
+rowsTo range mode q t x request.Stop = []
+rowsTo range mode q t x (request.Set p) = row3 q ∷ row6 (setpointsFit mode p) ∷ []
+rowsTo range mode q t x request.TotalClear = []
+rowsTo range mode q t x request.Undo = row7 t ∷ []
+rowsTo range mode q t x request.ShowGross = []
+rowsTo range mode q t x request.ShowNet = []
+rowsTo range mode q t x request.DayClose = row1 x ∷ []
 
 -- "0 is accepted or nothing asked. Otherwise the first that applies, in numerical order."
 abbrev pub firstOf : List Row → Outcome
@@ -80,7 +84,7 @@ firstOf [] = outcome.Done
 firstOf (r ∷ rs) = cond (r .applies) (outcome.Refused (r .number)) (firstOf rs)
 
 unfoldable pub rulingOf : Settings → State → Weights → Request → Outcome
-rulingOf s st x r = firstOf (rowsTo s st x r)
+rulingOf s st x r = firstOf (rowsTo (s .range) (s .batching .mode) (st .sequence) (st .totals) x r)
 
 abbrev pub doneOf : Outcome → Bool
 doneOf outcome.Done = true
@@ -119,8 +123,8 @@ grantedOf st x request.ShowNet = plainly (withDisplay st display.Net)
 grantedOf st x request.DayClose = closing st
 
 -- "A refused request changes nothing; the rest of the tick goes on."
-abbrev pub settling : Outcome → State → Settled → Settled
-settling o st granted = record {
+abbrev pub unlessRefused : Outcome → State → Settled → Settled
+unlessRefused o st granted = record {
   outcome = o;
   state = pickState (doneOf o) (granted .state) st;
   held = doneOf o && granted .held;
@@ -128,6 +132,11 @@ settling o st granted = record {
   closed = cond (doneOf o) (granted .closed) closed.Nothing;
 }
 
+-- the request that is done: none where it is refused
+abbrev pub grantOf : Outcome → Request → Request
+grantOf outcome.Done r = r
+grantOf (outcome.Refused n) r = request.Nothing
+
 -- step 4
-unfoldable pub settledBy : Settings → State → Weights → Request → Settled
-settledBy s st x r = settling (rulingOf s st x r) st (grantedOf st x r)
+unfoldable pub decidedOf : Settings → State → Weights → Request → Settled
+decidedOf s st x r = unlessRefused (rulingOf s st x r) st (grantedOf st x r)

@@ -5,7 +5,7 @@ use mathlib.Core.Path.{_≡_}
 use mathlib.Core.Bool.{Bool, true, false}
 use mathlib.Core.List.{List, [], _∷_, _++_, foldl}
 use lib.ListN.{replicate, set}
-use lib.IntN.{ℤ, pos, negsuc}
+use lib.IntN.{ℤ, pos}
 use Rattle.types.specs.declared.settings.Settings.{Settings}
 use Rattle.types.specs.declared.analog.Analog.the-variants as analog
 use Rattle.types.specs.declared.weight.Raw.the-variants.{Bad, Tenths}
@@ -21,13 +21,13 @@ use Rattle.outline.specs.Weight.{rawOf}
 use Rattle.outline.specs.DayBook.{openBook, bookOf, closedOf}
 use Rattle.outline.specs.Tick.{openState, countIn, blockOf}
 use Rattle.outline.specs.Numbers.{outcomeNumber, errorNumber, judgementNumber, blockNumber, toldNumber}
-use Rattle.outline.specs.Figures.{givenOf, listA, settingsA, settingsVolts, tickAt, told, next, held, steady, setpoints, oneBatch}
+use Rattle.outline.specs.Figures.{minus, givenOf, listA, settingsA, settingsVolts, tickAt, told, next, held, steady, setpoints, oneBatch}
 use Rattle.outline.specs.Worked.{leg, answers, stagesIn, gatesIn, ascii, line, ask, reply, settings7}
 
 -- ---- from count to weight
 -- settings A with Z -1,000, and S - Z twice 10·W
 abbrev pub settingsHalf : Settings
-settingsHalf = settingsOf (givenOf (set (set listA 0 (negsuc 999)) 1 (pos 199000)))
+settingsHalf = settingsOf (givenOf (set (set listA 0 (minus 1000)) 1 (pos 199000)))
 
 -- a tare of 10, keyed at 100 when stable
 abbrev pub tared : State
@@ -42,21 +42,21 @@ tareAt count = outcomeNumber (told settingsStill (foldl (countIn settingsStill f
 
 pub record Weighed : Type 0 where
   -- a half of a tenth on either side of Z goes away from zero
-  pub raw-up : rawOf (settingsHalf .calibration) (negsuc 998) ≡ Tenths (pos 1)
-  pub raw-down : rawOf (settingsHalf .calibration) (negsuc 1000) ≡ Tenths (negsuc 0)
-  pub raw-at-z : rawOf (settingsHalf .calibration) (negsuc 999) ≡ Tenths (pos 0)
-  pub raw-bad : rawOf (settingsHalf .calibration) (negsuc 2000000) ≡ Bad
+  pub raw-up : rawOf (settingsHalf .calibration) (minus 999) ≡ Tenths (pos 1)
+  pub raw-down : rawOf (settingsHalf .calibration) (minus 1001) ≡ Tenths (minus 1)
+  pub raw-at-z : rawOf (settingsHalf .calibration) (minus 1000) ≡ Tenths (pos 0)
+  pub raw-bad : rawOf (settingsHalf .calibration) (minus 2000001) ≡ Bad
   -- a bad tick answers 0 and 0, no overload, no analog value
   pub bad-gross : told settingsA tared (pos 2000001) request.Nothing .reading .gross ≡ pos 0
   pub bad-net : told settingsA tared (pos 2000001) request.Nothing .reading .net ≡ pos 0
   pub bad-overload : told settingsA tared (pos 2000001) request.Nothing .reading .overload ≡ false
   -- an accepted tare answers net 0 in its own tick; then net is gross less the tare
   pub tare-own : told settingsA (steady (pos 100)) (pos 100) request.Tare .reading .net ≡ pos 0
-  pub tare-later : told settingsA tared (pos 60) request.Nothing .reading .net ≡ negsuc 3
+  pub tare-later : told settingsA tared (pos 60) request.Nothing .reading .net ≡ minus 4
   pub tare-cleared : told settingsA tared (pos 60) request.TareClear .reading .net ≡ pos 6
   -- the tare's test is on divisions: -4 tenths are 0, -5 are -1; C + 1 is outside though no overload
-  pub tare-minus-4 : tareAt (negsuc 3) ≡ 0
-  pub tare-minus-5 : tareAt (negsuc 4) ≡ 5
+  pub tare-minus-4 : tareAt (minus 4) ≡ 0
+  pub tare-minus-5 : tareAt (minus 5) ≡ 5
   pub tare-at-c : tareAt (pos 100004) ≡ 0
   pub tare-past-c : tareAt (pos 100005) ≡ 5
 
@@ -95,7 +95,7 @@ abbrev pub judged : ℕ → ℕ → ℕ → ℤ → List Answer
 judged f over under count =
     answers settingsA
     (leg 1 (pos 0) (request.Set (record { target = f; fall = f; preliminary = 0; optional = 0; over = over; under = under; near = 0 }))
-    ∷ leg 1 (negsuc 99) request.Start ∷ leg 2 (negsuc 99) request.Nothing ∷ leg 103 count request.Nothing ∷ [])
+    ∷ leg 1 (minus 100) request.Start ∷ leg 2 (minus 100) request.Nothing ∷ leg 103 count request.Nothing ∷ [])
     openState
 
 abbrev pub last : List Answer → (Answer → ℕ) → ℕ
@@ -116,8 +116,8 @@ startWith p count n = answers settingsA (leg 1 count (request.Set p) ∷ leg 1 c
 abbrev pub unbooked : List Answer
 unbooked =
     answers settingsA
-    (leg 1 (pos 0) (request.Set (setpoints 10 10 0 0)) ∷ leg 1 (negsuc 99) request.Start ∷ leg 2 (negsuc 99) request.Nothing
-    ∷ leg 1 (pos 0) request.Nothing ∷ leg 102 (negsuc 49) request.Nothing ∷ [])
+    (leg 1 (pos 0) (request.Set (setpoints 10 10 0 0)) ∷ leg 1 (minus 100) request.Start ∷ leg 2 (minus 100) request.Nothing
+    ∷ leg 1 (pos 0) request.Nothing ∷ leg 102 (minus 50) request.Nothing ∷ [])
     openState
 
 abbrev pub largeToSmall : List Answer
@@ -193,7 +193,7 @@ pub record Booked : Type 0 where
   pub near : told settingsA openState (pos 4) request.Nothing .near ≡ true
   pub near-above : told settingsA openState (pos 5) request.Nothing .near ≡ false
   pub near-bad : told settingsA openState (pos 2000001) request.Nothing .near ≡ false
-  pub near-overload : told settingsA openState (negsuc 100084) request.Nothing .near ≡ false
+  pub near-overload : told settingsA openState (minus 100085) request.Nothing .near ≡ false
   -- full of 0 in mode 2: on above 0, off in a bad or overloaded tick
   pub full : told settingsLoss openState (pos 5) request.Nothing .full ≡ true
   pub full-bad : told settingsLoss openState (pos 2000001) request.Nothing .full ≡ false
@@ -207,7 +207,7 @@ pub record Booked : Type 0 where
   pub long-first : toldNumber (ask settings7 openState (pos 0) (replicate 65 88 ++ (13 ∷ 10 ∷ [])) 9 .told) ≡ 11
   pub empty-prefixed : toldNumber (ask settings7 openState (pos 0) (line "") 9 .told) ≡ 12
   -- a block is its ticks; an empty one changes nothing; a longer one is refused
-  pub block : blockOf settingsA openState (pos 0 ∷ negsuc 29 ∷ []) false .state ≡ next (next openState (pos 0) request.Nothing) (negsuc 29) request.Nothing
+  pub block : blockOf settingsA openState (pos 0 ∷ minus 30 ∷ []) false .state ≡ next (next openState (pos 0) request.Nothing) (minus 30) request.Nothing
   pub block-empty : (blockNumber (blockOf settingsA running [] true .answer) ≡ 0) × (blockOf settingsA running [] true .state ≡ running)
   pub block-long-state : blockOf settingsA running (replicate (suc blockLimit) (pos 0)) false .state ≡ running
   pub block-long : blockNumber (blockOf settingsA openState (replicate (suc blockLimit) (pos 0)) false .answer) ≡ 15

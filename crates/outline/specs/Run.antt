@@ -6,11 +6,10 @@ use lib.ListN.{length}
 use lib.IntN.{ℤ}
 use Prim.Native.Nat.{ℕ}
 use Rattle.types.specs.declared.settings.Settings.{Settings}
-use Rattle.types.specs.declared.requests.Request.the-variants as request
 use Rattle.types.specs.declared.machine.State.{State}
 use Rattle.types.specs.declared.machine.Input.{Input}
-use Rattle.outline.specs.Tick.{openState, nextOf}
-use Rattle.outline.specs.Replies.{askedOf, unaskedOf, dueText}
+use Rattle.outline.specs.Tick.{openState, nextOf, unaskedOf}
+use Rattle.outline.specs.Replies.{askedOf, dueText}
 
 -- what came, in the order of time: `h ▷ i` is h and then i
 infixl 40 _▷_
@@ -36,6 +35,6 @@ unfoldable pub lineInput : Settings → State → ℤ → Bool → List ℕ → 
 lineInput s st count contact receive buffer =
     cond (leb (length (dueText s st count contact receive)) (length buffer)) (askedOf s count contact receive) (unaskedOf count contact)
 
--- a tick without its request
-abbrev pub unasked : Input → Input
-unasked i = record { count = i .count; contact = i .contact; request = request.Nothing }
+-- the same tick, asked nothing
+abbrev pub withoutRequest : Input → Input
+withoutRequest i = unaskedOf (i .count) (i .contact)

@@ -39,19 +39,20 @@ comparedOf mode.Loss x = negℤ (x .net)
 abbrev pub reachedOf : Setpoints → ℕ → ℤ → Bool
 reachedOf p n v = leZ (pos (p .target) -ℤ pos n) v
 
--- what the sequence asks of the weights: "over if v > F + over, under if v < F - under"
+-- what the sequence asks of a bad or overloaded tick, its stability and its v: "over if v > F + over, under if v < F - under"
+abbrev pub factsAt : Setpoints → Bool → Bool → ℤ → Facts
+factsAt p unfit stable v = record {
+  unfit = unfit;
+  stable = stable;
+  large = reachedOf p (p .optional) v;
+  medium = reachedOf p (p .preliminary) v;
+  small = reachedOf p (p .fall) v;
+  over = ltZ (pos (p .target + p .over)) v;
+  under = ltZ v (pos (p .target) -ℤ pos (p .under));
+}
+
 unfoldable pub factsOf : Mode → Setpoints → Weights → Facts
-factsOf m p x =
-    let v = comparedOf m x in
-    record {
-      unfit = not (fitOf x);
-      stable = x .stable;
-      large = reachedOf p (p .optional) v;
-      medium = reachedOf p (p .preliminary) v;
-      small = reachedOf p (p .fall) v;
-      over = ltZ (pos (p .target + p .over)) v;
-      under = ltZ v (pos (p .target) -ℤ pos (p .under));
-    }
+factsOf m p x = factsAt p (not (fitOf x)) (x .stable) (comparedOf m x)
 
 -- "A timed stage of n lasts max(n, 1) ticks": t of them lie before this one, which is the last if t + 1 is n or more.
 unfoldable pub waitOf : ℕ → ℕ → Timing

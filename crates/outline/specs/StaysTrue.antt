@@ -8,7 +8,6 @@ use lib.ListN.{length, take, drop}
 use lib.IntN.{ℤ, natAbs, _+ℤ_, _-ℤ_}
 use Rattle.types.specs.declared.settings.Settings.{Settings}
 use Rattle.types.specs.declared.daybook.Closed.the-variants as closed
-use Rattle.types.specs.declared.requests.Request.{Request}
 use Rattle.types.specs.declared.requests.Request.the-variants as request
 use Rattle.types.specs.declared.requests.Outcome.the-variants as outcome
 use Rattle.types.specs.declared.stages.Setpoints.{Setpoints}
@@ -25,10 +24,11 @@ use Rattle.outline.specs.Tick.{settledOf, servedOf, nextOf, tickOf, bloc
 use Rattle.outline.specs.Lines.{lineOf, prefixLength, commandOf}
 use Rattle.outline.specs.Replies.{framed, dueText, lineTickOf}
 use Rattle.outline.specs.Owed.{Accepted}
-use Rattle.outline.specs.Run.{History, _▷_, runOf, thenAll, blockInputs, lineInput, unasked}
+use Rattle.outline.specs.Kinds.{requestKind}
+use Rattle.outline.specs.Run.{History, _▷_, runOf, thenAll, blockInputs, lineInput, withoutRequest}
 use Rattle.outline.specs.Day.{tapeOf, bookHistory}
 use Rattle.outline.specs.Zeroing.{seenRun, zeroingOf, sumOf, AllWithin}
-use Rattle.outline.specs.Ledger.{batchRun, ledgerOf, sumN}
+use Rattle.outline.specs.Ledger.{eventRun, ledgerOf, sumN}
 use Rattle.outline.specs.Ranges.{StateRange, WeightsRange, Unstopped}
 
 -- ---- 1. "the day balances (opening + refilled - used - unbooked is the last good raw)"
@@ -61,10 +61,10 @@ ZeroInForce = (s : Settings) → Accepted s → (h : History Input) → ZeroOf s
 -- ---- 5. "the total is the batches booked since the last clear less those taken back"
 pub record TotalsOf (s : Settings) (h : History Input) : Type 0 where
   pub total :
-      let l = ledgerOf (batchRun s h) in
+      let l = ledgerOf (eventRun s h) in
       runOf s h .totals .total + sumN (l .taken) ≡ sumN (l .booked)
   pub count :
-      let l = ledgerOf (batchRun s h) in
+      let l = ledgerOf (eventRun s h) in
       runOf s h .totals .count + length (l .taken) ≡ length (l .booked)
   pub total-limit : runOf s h .totals .total ≤ totalLimit
   pub count-limit : runOf s h .totals .count ≤ batchLimit
@@ -89,39 +89,24 @@ InRange = (s : Settings) → Accepted s → (h : History Input) → Within s h
 
 -- ---- 8. a refused request leaves every part of the state, and every output, as the tick without it does
 pub record AsUnasked (s : Settings) (st : State) (i : Input) : Type 0 where
-  pub state : tickOf s st i .state ≡ tickOf s st (unasked i) .state
-  pub reading : tickOf s st i .answer .reading ≡ tickOf s st (unasked i) .answer .reading
-  pub stage : tickOf s st i .answer .stage ≡ tickOf s st (unasked i) .answer .stage
-  pub gates : tickOf s st i .answer .gates ≡ tickOf s st (unasked i) .answer .gates
-  pub judgement : tickOf s st i .answer .judgement ≡ tickOf s st (unasked i) .answer .judgement
-  pub error : tickOf s st i .answer .error ≡ tickOf s st (unasked i) .answer .error
-  pub near : tickOf s st i .answer .near ≡ tickOf s st (unasked i) .answer .near
-  pub full : tickOf s st i .answer .full ≡ tickOf s st (unasked i) .answer .full
-  pub analog : tickOf s st i .answer .analog ≡ tickOf s st (unasked i) .answer .analog
+  pub state : tickOf s st i .state ≡ tickOf s st (withoutRequest i) .state
+  pub reading : tickOf s st i .answer .reading ≡ tickOf s st (withoutRequest i) .answer .reading
+  pub stage : tickOf s st i .answer .stage ≡ tickOf s st (withoutRequest i) .answer .stage
+  pub gates : tickOf s st i .answer .gates ≡ tickOf s st (withoutRequest i) .answer .gates
+  pub judgement : tickOf s st i .answer .judgement ≡ tickOf s st (withoutRequest i) .answer .judgement
+  pub error : tickOf s st i .answer .error ≡ tickOf s st (withoutRequest i) .answer .error
+  pub near : tickOf s st i .answer .near ≡ tickOf s st (withoutRequest i) .answer .near
+  pub full : tickOf s st i .answer .full ≡ tickOf s st (withoutRequest i) .answer .full
+  pub analog : tickOf s st i .answer .analog ≡ tickOf s st (withoutRequest i) .answer .analog
   pub closed : tickOf s st i .answer .closed ≡ closed.Nothing
 
 abbrev pub Refusals : Type 0
 Refusals = (s : Settings) (st : State) (i : Input) → doneOf (tickOf s st i .answer .outcome) ≡ false → AsUnasked s st i
 
 -- ---- 9. "Setpoints written on the line read back as the same figures"
--- a request that writes no setpoints
-abbrev pub isSet : Request → Bool
-isSet request.Nothing = false
-isSet request.Zero = false
-isSet request.Tare = false
-isSet request.TareClear = false
-isSet request.Start = false
-isSet request.Stop = false
-isSet (request.Set p) = true
-isSet request.TotalClear = false
-isSet request.Undo = false
-isSet request.ShowGross = false
-isSet request.ShowNet = false
-isSet request.DayClose = false
-
 abbrev pub NoneSet : List Input → Type 0
 NoneSet [] = Unit {0}
-NoneSet (i ∷ is) = (isSet (i .request) ≡ false) × NoneSet is
+NoneSet (i ∷ is) = (requestKind (i .request) .writes ≡ false) × NoneSet is
 
 -- the 42 bytes after SS
 abbrev pub figuresOf : Settings → List ℕ → List ℕ
@@ -140,7 +125,7 @@ ReadBack = (s : Settings) → Accepted s → (h : History Input) (count : ℤ) (
 -- ---- 10. what a day close answers is the book that the same tick without the close would have left
 abbrev pub Ticket : Type 0
 Ticket = (s : Settings) (st : State) (i : Input) → i .request ≡ request.DayClose → tickOf s st i .answer .outcome ≡ outcome.Done
-    → tickOf s st i .answer .closed ≡ closed.Day (nextOf s st (unasked i) .book)
+    → tickOf s st i .answer .closed ≡ closed.Day (nextOf s st (withoutRequest i) .book)
 
 -- ---- blocks and ticks with lines are runs
 abbrev pub BlocksAreRuns : Type 0

@@ -28,7 +28,7 @@ use Rattle.outline.specs.Setpoints.{openSetpoints, nearOf, fullOf}
 use Rattle.outline.specs.Stages.{openSequence, comparedOf, factsOf, advanceOf, gatesOf}
 use Rattle.outline.specs.Totals.{clearTotals, bookedTotals, bookedSequence}
 use Rattle.outline.specs.Parts.{withBook, withStability, withWeighing, withSequence, withTotals, pickState}
-use Rattle.outline.specs.Requests.{idleNow, settledBy}
+use Rattle.outline.specs.Requests.{idleNow, decidedOf}
 use Rattle.outline.specs.Analog.{analogOf}
 
 -- "Opening: zero, tare, totals, setpoints and error 0, stage 00, display gross, no judgement, nothing to take back, no good tick yet."
@@ -62,7 +62,7 @@ unfoldable pub settledOf : Settings → State → Input → Settled
 settledOf s st i =
     let raw = rawOf (s .calibration) (i .count) in
     let entered = enteredOf s st raw (i .contact) in
-    settledBy s entered (weightsOf s entered raw (i .contact)) (i .request)
+    decidedOf s entered (weightsOf s entered raw (i .contact)) (i .request)
 
 -- "Step 4's weights serve steps 5, 6 and every output answered": worked out again with the zero and tare that step 4 leaves.
 unfoldable pub servedOf : Settings → State → Input → Weights
@@ -113,10 +113,14 @@ outputsOf s a x st = record {
 unfoldable pub tickOf : Settings → State → Input → Ticked
 tickOf s st i = record { state = nextOf s st i; answer = outputsOf s (settledOf s st i) (servedOf s st i) (nextOf s st i) }
 
+-- the input of a tick that is asked nothing
+abbrev pub unaskedOf : ℤ → Bool → Input
+unaskedOf count contact = record { count = count; contact = contact; request = request.Nothing }
+
 -- ---- blocks
 -- one count of a block: a tick with the block's contact and no request
 unfoldable pub countIn : Settings → Bool → State → ℤ → State
-countIn s contact st count = nextOf s st (record { count = count; contact = contact; request = request.Nothing })
+countIn s contact st count = nextOf s st (unaskedOf count contact)
 
 -- "A block of up to 4,096 counts may be lent at once, with one refill contact value and no requests; it does exactly what those ticks
 -- do one after another and answers 0 and the state, an empty one too. A longer block is refused with 15, state unchanged."

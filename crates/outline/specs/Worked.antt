@@ -7,7 +7,7 @@ use mathlib.Core.Path.{_≡_}
 use mathlib.Core.Bool.{Bool, true, false}
 use mathlib.Core.List.{List, [], _∷_, _++_}
 use lib.ListN.{replicate, set}
-use lib.IntN.{ℤ, pos, negsuc}
+use lib.IntN.{ℤ, pos}
 use Rattle.types.specs.declared.settings.Settings.{Settings}
 use Rattle.types.specs.declared.requests.Request.{Request}
 use Rattle.types.specs.declared.requests.Request.the-variants as request
@@ -22,7 +22,7 @@ use Rattle.outline.specs.Tick.{openState}
 use Rattle.outline.specs.Lines.{lettersFor, setLetters}
 use Rattle.outline.specs.Replies.{lettersText, lineTickOf, replyBuffer}
 use Rattle.outline.specs.Numbers.{stageNumber, errorNumber, toldNumber}
-use Rattle.outline.specs.Figures.{givenOf, listA, settingsA, tickAt, setpoints, steady, oneBatch}
+use Rattle.outline.specs.Figures.{minus, givenOf, listA, settingsA, tickAt, setpoints, steady, oneBatch}
 
 -- ---- a batch, stage by stage: start delay 3, large disable 2, medium 0, small 1, judge delay 2, stability time 10
 abbrev pub settingsTimed : Settings
@@ -165,8 +165,8 @@ pub record Lines : Type 0 where
   -- "RW as `ST,GS,+0004421kg`"; bytes past the reply stay
   pub rw : reply settingsA (steady (pos 44210)) (pos 44210) (line "RW") 20 ≡ line "ST,GS,+0004421kg" ++ (255 ∷ 255 ∷ [])
   pub rw-length : ask settingsA (steady (pos 44210)) (pos 44210) (line "RW") 20 .length ≡ 18
-  pub rw-unstable : reply settingsA openState (negsuc 44) (line "RW") 18 ≡ line "US,GS,-0000005kg"
-  pub rw-over : reply settingsA openState (negsuc 100084) (line "RW") 18 ≡ line "OL,GS,-       kg"
+  pub rw-unstable : reply settingsA openState (minus 45) (line "RW") 18 ≡ line "US,GS,-0000005kg"
+  pub rw-over : reply settingsA openState (minus 100085) (line "RW") 18 ≡ line "OL,GS,-       kg"
   pub rw-bad : reply settingsA openState (pos 2000001) (line "RW") 18 ≡ line "OL,GS,+       kg"
   pub rw-prefixed : reply settings7 openState (pos 0) (line "@07RW") 21 ≡ line "@07US,GS,+0000000kg"
   -- MN acts on its own tick: a read in the next shows net

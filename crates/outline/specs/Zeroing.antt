@@ -7,29 +7,14 @@ use lib.IntN.{ℤ, pos, natAbs, _+ℤ_, _-ℤ_}
 use Rattle.types.specs.declared.settings.Settings.{Settings}
 use Rattle.types.specs.declared.weight.Raw.{Raw}
 use Rattle.types.specs.declared.weight.Raw.the-variants.{Bad, Tenths}
-use Rattle.types.specs.declared.requests.Request.{Request}
-use Rattle.types.specs.declared.requests.Request.the-variants as request
 use Rattle.types.specs.declared.machine.State.{State}
 use Rattle.types.specs.declared.machine.Input.{Input}
 use Rattle.outline.specs.Limits.{overloadMargin}
 use Rattle.outline.specs.Weight.{rawOf, divisionsOf}
 use Rattle.outline.specs.Requests.{doneOf, idleNow}
 use Rattle.outline.specs.Tick.{settledOf}
+use Rattle.outline.specs.Kinds.{requestKind}
 use Rattle.outline.specs.Run.{History, start, _▷_, runOf}
-
-abbrev pub asksZero : Request → Bool
-asksZero request.Nothing = false
-asksZero request.Zero = true
-asksZero request.Tare = false
-asksZero request.TareClear = false
-asksZero request.Start = false
-asksZero request.Stop = false
-asksZero (request.Set p) = false
-asksZero request.TotalClear = false
-asksZero request.Undo = false
-asksZero request.ShowGross = false
-asksZero request.ShowNet = false
-asksZero request.DayClose = false
 
 pub record Seen : Type 0 where
   pub raw : Raw
@@ -43,7 +28,7 @@ seenOf s st i = record {
   raw = rawOf (s .calibration) (i .count);
   contact = i .contact;
   idle = idleNow (settledOf s st i .state);
-  keyed = doneOf (settledOf s st i .outcome) && asksZero (i .request);
+  keyed = doneOf (settledOf s st i .outcome) && requestKind (i .request) .zeroes;
 }
 
 abbrev pub seenRun : Settings → History Input → History Seen

@@ -6,6 +6,7 @@ ghost use Rattle.outline.specs.LogFigures.{Logs};
 ghost use Rattle.outline.specs.Rules.{Weighed, Refused, Staged, Booked};
 ghost use Rattle.outline.specs.Owed.{RawLaw, SetpointLaw, TimedLaw};
 ghost use Rattle.outline.specs.AnalogOwed.{ScaleLaw, AnalogLaws};
+ghost use Rattle.outline.specs.EveryLine.{ReplyBounded, BytesStay, AnsweredInOrder, RefusedLines, ReadBackOnLine};
 ghost use Rattle.outline.specs.StaysTrue.{Balance, SumsOfHistory, NothingElse, ZeroInForce, TotalOfBatches, GatesShut, InRange, Refusals, ReadBack, Ticket, BlocksAreRuns, LinesAreRuns};
 
 // The figures of the outline and the laws that the definitions owe. It does nothing: it stands here so that the check's list names
@@ -44,4 +45,14 @@ pub fn every_run()
     ensures ticket { λ r. ⌜ Ticket ⌝ }
     ensures blocks { λ r. ⌜ BlocksAreRuns ⌝ }
     ensures lines { λ r. ⌜ LinesAreRuns ⌝ }
+{}
+
+// What holds of every tick with a line, whatever the settings, the state and the two buffers. It does nothing, and stands here as
+// `paper_holds` does.
+pub fn every_line()
+    ensures bounded { λ r. ⌜ ReplyBounded ⌝ }
+    ensures bytes { λ r. ⌜ BytesStay ⌝ }
+    ensures order { λ r. ⌜ AnsweredInOrder ⌝ }
+    ensures refused { λ r. ⌜ RefusedLines ⌝ }
+    ensures read_back { λ r. ⌜ ReadBackOnLine ⌝ }
 {}

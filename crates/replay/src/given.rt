@@ -1,6 +1,6 @@
-// The settings line: 22 whole numbers parted by single spaces, in the order of the outline's table.
-use line::byte_at;
-use numerals::number_at;
+// The settings line: 22 whole numbers separated by single spaces, in the order of the outline's table.
+use commands::line::byte_at;
+use logs::numerals::number_at;
 use types::log::LogNumber;
 use types::settings::Given;
 
@@ -20,11 +20,11 @@ enum Step {
 fn stepped(line: &[u8], at: usize, last: bool) -> Step {
     match number_at(line, at) {
         LogNumber::Unreadable => Step::Wrong,
-        LogNumber::Number(n, end) => parted(line, n, end, last),
+        LogNumber::Number(n, end) => separated(line, n, end, last),
     }
 }
 
-fn parted(line: &[u8], n: i32, end: usize, last: bool) -> Step {
+fn separated(line: &[u8], n: i32, end: usize, last: bool) -> Step {
     if last {
         return ended(line, n, end);
     }

@@ -5,26 +5,29 @@
 // length of the reply buffer (64 without it).
 ghost use Prim.Native.Nat.{_≤_};
 use crate::given::GivenLine;
+use crate::printout::put_opened;
+use crate::printout::put_refused;
+use crate::printout::put_tick;
+use crate::printout::written;
+use controller::opening::open;
+use controller::opening::open_state;
 use libc::STDERR_FILENO;
 use libc::STDOUT_FILENO;
-use logticks::request_tick;
-use numerals::number_at;
-use opening::open;
-use opening::open_state;
-use pieces::part;
-use printout::put_opened;
-use printout::put_refused;
-use printout::put_tick;
-use printout::written;
-use reader::Line;
-use reader::first_line;
-use reader::next_line;
+use logs::numerals::number_at;
+use logs::pieces::part;
+use logs::reader::Line;
+use logs::reader::first_line;
+use logs::reader::next_line;
+use logs::reader::request_in;
+use logs::ticks::request_tick;
 use types::log::LogNumber;
 use types::settings::Given;
 use types::settings::Opening;
 use types::settings::Settings;
 
 mod given;
+mod printout;
+mod text;
 
 // The longest reply buffer.
 const REPLY_LIMIT: usize = 64;
@@ -35,12 +38,6 @@ fn put_end(out: &mut [u8], at: usize, line: Line) -> usize {
         return put_refused(out, at, line.number);
     }
     at
-}
-
-// The request's bytes.
-fn request_in(space: &[u8], line: Line) -> &[u8] {
-    let said = line.said;
-    part(part(space, line.from, line.end), said.request, line.end)
 }
 
 // The ticks, from the line behind `first` on. A proved loop has to end, and nothing says that the input does: so the ticks are counted,
@@ -107,10 +104,6 @@ enum Room {
     Wrong,
 }
 
-fn wide(n: i32) -> i64 {
-    n as i64
-}
-
 fn room_at(word: &[u8], n: i32, end: usize) -> Room {
     if word.len() != end {
         return Room::Wrong;
@@ -118,7 +111,7 @@ fn room_at(word: &[u8], n: i32, end: usize) -> Room {
     if n < 0 {
         return Room::Wrong;
     }
-    let bytes = whole::magnitude(wide(n));
+    let bytes = whole::magnitude(whole::wide(n));
     if 64 < bytes {
         return Room::Wrong;
     }

@@ -11,7 +11,7 @@ use lib.Seq.{sets, set-comm}
 use Rattle.outline.specs.Lines.{unitsDigit}
 use Rattle.outline.specs.Replies.{digitsOf, lettersText}
 use Rattle.replies.specs.Put.{Put}
-use Rattle.replies.specs.Lengths.{length-digits}
+use Rattle.outline.specs.Lengths.{length-digits}
 
 -- ---- writers in a chain
 sets-append : (l : List ℕ) (i : ℕ) (xs ys : List ℕ) → sets (sets l i xs) (i + length xs) ys ≡ sets l i (xs ++ ys)

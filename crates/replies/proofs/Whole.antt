@@ -16,7 +16,7 @@ use Rattle.outline.specs.Replies.{prefixText, framed, replyText, writtenOf}
 use Rattle.replies.specs.declared.Wrote.the-variants.{Bytes, Short}
 use Rattle.replies.specs.Wrote.{wroteOf}
 use Rattle.replies.specs.Put.{Put}
-use Rattle.replies.specs.Texts.{textOf, textLength}
+use Rattle.outline.specs.Texts.{textOf, textLength}
 
 -- ---- the prefix
 pub prefix-three : {a : ℕ} → 0 < a → prefixLength a ≡ 3

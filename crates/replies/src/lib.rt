@@ -11,10 +11,12 @@ use crate::put::put_byte;
 use crate::put::put_pair;
 use crate::text::put_text;
 use crate::text::text_length;
-use prefix::prefix_length;
+use commands::prefix::prefix_length;
 use types::lines::Reply;
 
+pub mod due;
 mod put;
+mod shown;
 mod text;
 
 // "@" before the address

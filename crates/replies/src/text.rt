@@ -5,7 +5,7 @@ ghost use Prim.Native.Nat.{_+_, _≤_};
 ghost use lib.ListN.{length};
 ghost use Rattle.outline.specs.Replies.{signByte, amountText, weightText, totalText, pointsText, refusedText, digitsOf};
 ghost use Rattle.replies.specs.Put.{Put};
-ghost use Rattle.replies.specs.Texts.{textOf, textLength};
+ghost use Rattle.outline.specs.Texts.{textOf, textLength};
 use crate::put::put_byte;
 use crate::put::put_digits;
 use crate::put::put_letters;

@@ -1,5 +1,4 @@
--- A tick with a line, put together from what its parts give: the command, the half tick, the reply due and what was written.
--- Assumes nothing.
+-- A tick with a line, put together from what its parts give: the command, the tick, the reply due and what was written. Assumes nothing.
 use Prim.Native.Nat.{ℕ}
 use native.Mathlib.Omega.{arith}
 use mathlib.Core.Path.{_≡_, refl, sym, ap, _∙_}
@@ -9,18 +8,19 @@ use lib.Dec.{leb}
 use lib.ListN.{length}
 use lib.IntN.{ℤ}
 use Rattle.types.specs.declared.settings.Settings.{Settings}
+use Rattle.types.specs.declared.requests.Request.{Request}
 use Rattle.types.specs.declared.machine.State.{State}
+use Rattle.types.specs.declared.machine.Input.{Input}
 use Rattle.types.specs.declared.machine.Ticked.{Ticked}
 use Rattle.types.specs.declared.lines.Command.{Command}
 use Rattle.types.specs.declared.lines.Reply.{Reply}
 use Rattle.types.specs.declared.lines.LineAnswer.{LineAnswer}
 use Rattle.types.specs.declared.lines.LineAnswer.the-variants as told
 use Rattle.types.specs.declared.lines.LineTick.{LineTick}
-use Rattle.outline.specs.Tick.{settledOf, nextOf, tickOf}
-use Rattle.outline.specs.Lines.{commandOf, requestOf}
-use Rattle.outline.specs.Replies.{replyText, replyDue, toldOf, askedOf, unaskedOf, dueText, lineTicked, lineTickOf, writtenOf, replyBuffer}
-use Rattle.halves.specs.declared.Halfway.{Halfway}
-use Rattle.halves.specs.Halves.{halfwayOf, finishOf}
+use Rattle.outline.specs.Tick.{settledOf, outputsOf, tickOf, unaskedOf}
+use Rattle.outline.specs.Lines.{commandOf}
+use Rattle.outline.specs.Replies.{requestOf, replyText, replyDue, toldOf, askedOf, dueText, lineTicked, lineTickOf, writtenOf, replyBuffer}
+use Rattle.outline.specs.Reads.{due-before}
 use Rattle.replies.specs.declared.Wrote.{Wrote}
 use Rattle.replies.specs.declared.Wrote.the-variants.{Bytes, Short}
 use Rattle.replies.specs.Wrote.{wroteOf}
@@ -37,19 +37,23 @@ short-case true k fit short e = let z : _≡_ {A = ℕ} 0 1 = cc in absurd (omeg
 short-case false k fit short e = refl
 
 module _ (s : Settings) (st : State) (count : ℤ) (contact : Bool) (receive buffer : List ℕ)
-    (command : Command) (half : Halfway) (due : Reply) (wrote : Wrote) (after : List ℕ)
+    (command : Command) (request : Request) (tick : Ticked) (due : Reply) (wrote : Wrote) (after : List ℕ)
     (ec : command ≡ commandOf receive (s .address))
-    (eh : half ≡ halfwayOf s st (record { count = count; contact = contact; request = requestOf command }))
-    (ed : due ≡ replyDue command (half .settled) (half .weights))
+    (er : request ≡ requestOf command)
+    (et : tick ≡ tickOf s st (record { count = count; contact = contact; request = request }))
+    (ed : due ≡ replyDue command st (tick .answer .reading) (tick .answer .outcome))
     (ew : wrote ≡ wroteOf (replyText (s .address) due) buffer)
     (ea : after ≡ writtenOf (replyText (s .address) due) buffer) where
-  -- the half tick is of the input that the line asks for
-  asked : half ≡ halfwayOf s st (askedOf s count contact receive)
-  asked = eh ∙ ap (λ (d : Command). halfwayOf s st (record { count = count; contact = contact; request = requestOf d })) ec
+  -- the tick is of the input that the line asks for
+  asked : tick ≡ tickOf s st (askedOf s count contact receive)
+  asked = et ∙ ap (λ (r : Request). tickOf s st (record { count = count; contact = contact; request = r })) (er ∙ ap requestOf ec)
 
   text-due : replyText (s .address) due ≡ dueText s st count contact receive
-  unfolding dueText halfwayOf
-  text-due = simp (ed, asked, ec)
+  unfolding dueText tickOf outputsOf
+  text-due =
+      ap (replyText (s .address))
+      (ed ∙ (λ j. replyDue (ec j) st (asked j .answer .reading) (asked j .answer .outcome))
+      ∙ sym (due-before s st (askedOf s count contact receive) (commandOf receive (s .address)) refl _ _))
 
   wrote-due : (w : Wrote) → wrote ≡ w → wroteOf (dueText s st count contact receive) buffer ≡ w
   wrote-due w e = ap (λ (text : List ℕ). wroteOf text buffer) (sym text-due) ∙ sym ew ∙ e
@@ -58,23 +62,22 @@ module _ (s : Settings) (st : State) (count : ℤ) (contact : Bool) (receive buf
   unfolding replyBuffer
   bytes-due = ea ∙ ap (λ (text : List ℕ). writtenOf text buffer) text-due
 
-  pub fitted : (n : ℕ) → wrote ≡ Bytes n → (r : LineTick) → r ≡ lineTicked (toldOf command (half .settled .outcome)) n (finishOf s half)
+  pub fitted : (n : ℕ) → wrote ≡ Bytes n → (t : LineAnswer) → t ≡ toldOf command (tick .answer .outcome) → (r : LineTick) → r ≡ lineTicked t n tick
       → (r ≡ lineTickOf s st count contact receive buffer) × (after ≡ replyBuffer s st count contact receive buffer)
-  unfolding lineTickOf wroteOf tickOf nextOf halfwayOf finishOf
-  fitted n e r er = (
-    simp (er, asked, ec)
-        (fitted-case (leb (length (dueText s st count contact receive)) (length buffer)) (length (dueText s st count contact receive)) n
+  unfolding lineTickOf wroteOf tickOf outputsOf
+  fitted n e t ett r err = (
+    err ∙ (λ j. lineTicked ((ett ∙ (λ k. toldOf (ec k) (asked k .answer .outcome))) j) n (asked j))
+        ∙ fitted-case (leb (length (dueText s st count contact receive)) (length buffer)) (length (dueText s st count contact receive)) n
         (toldOf (commandOf receive (s .address)) (settledOf s st (askedOf s count contact receive) .outcome))
-        (tickOf s st (askedOf s count contact receive)) _ (wrote-due (Bytes n) e)),
+        (tickOf s st (askedOf s count contact receive)) _ (wrote-due (Bytes n) e),
     bytes-due,
   )
 
   pub short : wrote ≡ Short → (r : LineTick) → r ≡ lineTicked told.ShortBuffer 0 (tickOf s st (unaskedOf count contact))
       → (r ≡ lineTickOf s st count contact receive buffer) × (after ≡ replyBuffer s st count contact receive buffer)
   unfolding lineTickOf wroteOf
-  short e r er = (
-    simp er
-        (short-case (leb (length (dueText s st count contact receive)) (length buffer)) (length (dueText s st count contact receive)) _ _
-        (wrote-due Short e)),
+  short e r err = (
+    err ∙ short-case (leb (length (dueText s st count contact receive)) (length buffer)) (length (dueText s st count contact receive)) _ _
+        (wrote-due Short e),
     bytes-due,
   )

@@ -1,19 +1,16 @@
 // A tick with a line: the line in the receive buffer is the tick's request, and its reply goes into the caller's reply buffer.
 ghost use mathlib.Core.Path.{_≡_};
-ghost use Rattle.outline.specs.Tick.{tickOf};
-ghost use Rattle.outline.specs.Lines.{requestOf};
-ghost use Rattle.outline.specs.Replies.{replyDue, toldOf, unaskedOf, lineTicked, lineTickOf, replyBuffer};
-ghost use Rattle.halves.specs.Halves.{halfwayOf, finishOf};
-use halves::Halfway;
+ghost use Rattle.outline.specs.Tick.{tickOf, unaskedOf};
+ghost use Rattle.outline.specs.Replies.{lineTicked, lineTickOf, replyBuffer};
 use replies::Wrote;
-use types::lines::Command;
+use replies::due::reply_due;
+use replies::due::request_of;
+use replies::due::told_of;
 use types::lines::LineAnswer;
 use types::lines::LineTick;
-use types::lines::Reply;
 use types::machine::Answer;
 use types::machine::Input;
 use types::machine::State;
-use types::requests::Request;
 use types::settings::Settings;
 
 fn with_line(told: LineAnswer, length: usize, answer: Answer, state: State) -> LineTick
@@ -27,57 +24,23 @@ fn with_line(told: LineAnswer, length: usize, answer: Answer, state: State) -> L
     }
 }
 
-// Steps 1 to 4 with what the command asks for. Nothing is kept of them yet: the reply may not fit.
-fn half_asked(s: Settings, st: State, count: i32, contact: bool, command: Command) -> Halfway
-    ensures { λ r. ⌜ r ≡ halfwayOf s st (record { count = count; contact = contact; request = requestOf command }) ⌝ }
+// A tick without a request, and what its line is told: nothing is replied.
+fn silent_tick(told: LineAnswer, s: Settings, st: State, count: i32, contact: bool) -> LineTick
+    ensures { λ r. ⌜ r ≡ lineTicked told 0 (tickOf s st (unaskedOf count contact)) ⌝ }
 {
-    let request = asks::request_of(command);
-    halves::half_tick(
-        s,
-        st,
-        Input {
-            count,
-            contact,
-            request,
-        },
-    )
+    let t = controller::unasked::unasked_tick(s, st, count, contact);
+    with_line(told, 0, t.answer, t.state)
 }
 
-// The reply shows what the fourth step left.
-fn due_after(command: Command, half: Halfway) -> Reply
-    ensures { λ r. ⌜ r ≡ replyDue command (half .settled) (half .weights) ⌝ }
+// A tick that no line comes with.
+pub fn lineless_tick(s: Settings, st: State, count: i32, contact: bool) -> LineTick
+    ensures { λ r. ⌜ r ≡ lineTicked LineAnswer.Done 0 (tickOf s st (unaskedOf count contact)) ⌝ }
 {
-    due::reply_due(command, half.settled, half.weights)
+    silent_tick(LineAnswer::Done, s, st, count, contact)
 }
 
-// The reply is written, so the tick goes on with what was asked for.
-fn finished(s: Settings, command: Command, half: Halfway, length: usize) -> LineTick
-    ensures { λ r. ⌜ r ≡ lineTicked (toldOf command (half .settled .outcome)) length (finishOf s half) ⌝ }
-{
-    let settled = half.settled;
-    let outcome = settled.outcome;
-    let told = told::told_of(command, outcome);
-    let ticked = halves::finish_tick(s, half);
-    with_line(told, length, ticked.answer, ticked.state)
-}
-
-// The reply did not fit, so the tick is run anew as one without a request.
-fn unasked(s: Settings, st: State, count: i32, contact: bool) -> LineTick
-    ensures { λ r. ⌜ r ≡ lineTicked LineAnswer.ShortBuffer 0 (tickOf s st (unaskedOf count contact)) ⌝ }
-{
-    let half = halves::half_tick(
-        s,
-        st,
-        Input {
-            count,
-            contact,
-            request: Request::Nothing,
-        },
-    );
-    let ticked = halves::finish_tick(s, half);
-    with_line(LineAnswer::ShortBuffer, 0, ticked.answer, ticked.state)
-}
-
+// The tick is run with what the line asks for, and its reply is made from what it answers. A read asks for nothing, so that what it shows
+// of the state is what stood before the tick. Where the reply does not fit, the tick is run anew as one without a request.
 pub fn line_tick(
     s: Settings,
     st: State,
@@ -90,10 +53,26 @@ pub fn line_tick(
     ensures bytes { λ r. ⌜ now (reply .exit) ≡ replyBuffer s st count contact (now (receive .entry)) (now (reply .entry)) ⌝ }
 {
     let command = commands::command_of(receive, s.address);
-    let half = half_asked(s, st, count, contact, command);
-    let due = due_after(command, half);
+    let request = request_of(command);
+    let t = controller::tick(
+        s,
+        st,
+        Input {
+            count,
+            contact,
+            request,
+        },
+    );
+    let answer = t.answer;
+    let outcome = answer.outcome;
+    let due = reply_due(command, st, answer.reading, outcome);
     match replies::write_reply(reply, s.address, due) {
-        Wrote::Bytes(length) => return finished(s, command, half, length),
-        Wrote::Short => return unasked(s, st, count, contact),
+        Wrote::Bytes(length) => return with_line(
+            told_of(command, outcome),
+            length,
+            t.answer,
+            t.state,
+        ),
+        Wrote::Short => return silent_tick(LineAnswer::ShortBuffer, s, st, count, contact),
     }
 }

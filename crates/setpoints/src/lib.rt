@@ -4,6 +4,8 @@ ghost use Rattle.outline.specs.Setpoints.{openSetpoints, sevenFit, preliminaryF
 use types::settings::Mode;
 use types::stages::Setpoints;
 
+pub mod levels;
+
 // Each of the seven, in display digits.
 const SETPOINT_LIMIT: u32 = 999_999;
 

@@ -16,7 +16,7 @@ use Rattle.whole.specs.Ints.{eqZ, eqZ-yes, eqZ-no, ints, ints3, linear, leZ-tra
 use Rattle.whole.specs.Machine.{fits-of}
 use Rattle.whole.specs.Bits.{arg, drop-need, eq-is, ne-is}
 use Rattle.types.specs.declared.settings.Given.{Given}
-use Rattle.ranges.specs.Held.{Held}
+use Rattle.settings.specs.Held.{Held}
 use Rattle.outline.specs.Limits.{countLimit, capacityLimit, zeroRangeLimit, trackTimeLimit, trackWidthLimit, allowanceLimit, stableTimeLeast, stableTimeLimit, stableWidthLimit, delayLimit, flowLimit, addressLimit}
 use Rattle.outline.specs.Settings.{fromTo, within, countsFit, capacityFits, divisionFits, zeroRangeFits, trackingFits, stabilityFits, modeFits, delaysFit, flowFits, addressFits, analogFits, settingsFit}
 

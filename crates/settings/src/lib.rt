@@ -13,6 +13,8 @@ use types::settings::Settings;
 use types::settings::Steadiness;
 use types::settings::Tracking;
 
+mod ranges;
+
 fn mode_of(m: i32) -> Mode
     ensures { λ r. ⌜ r ≡ modeOf m ⌝ }
 {
@@ -113,7 +115,7 @@ fn made(g: Given) -> Settings
 pub fn open(g: Given) -> Opening
     ensures { λ r. ⌜ r ≡ openOf g ⌝ }
 {
-    if !ranges::settings_fit(g) {
+    if !crate::ranges::settings_fit(g) {
         return Opening::Refused;
     }
     Opening::Accepted(made(g))

@@ -1,14 +1,14 @@
 // The ticket program. It reads a log from standard input, a line `count contact request` for each tick, runs the controller under
 // settings A of the outline, and prints a ticket at each accepted day close. At a line that can't be read it prints
 // `refused=` and the line's number, and ends. The input may have any length: it is read in pieces.
+use controller::opening::open;
+use controller::opening::open_state;
 use libc::STDOUT_FILENO;
-use logticks::request_tick;
-use opening::open;
-use opening::open_state;
-use pieces::part;
-use reader::Line;
-use reader::first_line;
-use reader::next_line;
+use logs::reader::Line;
+use logs::reader::first_line;
+use logs::reader::next_line;
+use logs::reader::request_in;
+use logs::ticks::request_tick;
 use types::daybook::Book;
 use types::daybook::Closed;
 use types::machine::Answer;
@@ -18,6 +18,7 @@ use types::settings::Opening;
 use types::settings::Settings;
 use types::stages::Totals;
 use types::weight::Weighing;
+use whole::wide;
 
 // Settings A.
 fn given() -> Given {
@@ -54,10 +55,6 @@ fn print(key: &[u8], n: i64) {
     }
     io::print_decimal(STDOUT_FILENO, whole::magnitude(n));
     io::write_all(STDOUT_FILENO, b"\n");
-}
-
-fn wide(n: i32) -> i64 {
-    n as i64
 }
 
 fn print_count(key: &[u8], n: u64) {
@@ -99,12 +96,6 @@ fn print_end(line: Line) {
     if line.here {
         print_count(b"refused=", line.number);
     }
-}
-
-// The request's bytes.
-fn request_in(space: &[u8], line: Line) -> &[u8] {
-    let said = line.said;
-    part(part(space, line.from, line.end), said.request, line.end)
 }
 
 // A proved loop has to end, and nothing says that the input does: so the ticks are counted, from a number that no run uses up.

@@ -1,7 +1,7 @@
 // From raw to weight. Raw and gross fine are in tenths, gross, net and tare in display digits.
 ghost use mathlib.Core.Path.{_≡_};
 ghost use Rattle.outline.specs.Weight.{overloadOf, keptOf, weighOf, displayedOf, fitOf};
-use stability::is_stable;
+use crate::stability::is_stable;
 use types::settings::Range;
 use types::settings::Settings;
 use types::weight::Display;
@@ -9,6 +9,9 @@ use types::weight::Raw;
 use types::weight::Stability;
 use types::weight::Weighing;
 use types::weight::Weights;
+
+pub mod raw;
+pub mod stability;
 
 // Overload is beyond the capacity and so many divisions.
 const OVERLOAD_MARGIN: u64 = 8;

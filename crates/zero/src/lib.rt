@@ -4,6 +4,8 @@ ghost use Rattle.outline.specs.Zero.{inZeroRange, zeroedOf, inTareRange, taredO
 use types::settings::Range;
 use types::weight::Weighing;
 
+pub mod tracking;
+
 // 10·|raw| is at most C·p.
 pub fn in_zero_range(r: Range, raw: i32) -> bool
     ensures { λ t. ⌜ t ≡ inZeroRange r raw ⌝ }

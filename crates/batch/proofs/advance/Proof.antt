@@ -1,7 +1,8 @@
 -- The tests stand in the order of the definition, and each answer picks the sequence; past them the move is landed.
-use mathlib.Core.Path.{_∙_}
 use borrow.Author.Needs.{needs}
 use Rattle.outline.specs.Stages.{advanceOf}
+use mir.Facts.{toZ-ofZ}
+use mathlib.Core.Path.{_∙_}
 use Rattle.batch.proofs.advance.Statement.{statement}
 use Rattle.batch.proofs.advance.Tie as tie
 
@@ -20,7 +21,7 @@ failed-requires c κs = search needs
 
 returns-2 : tie.Need-returns-2
 unfolding advanceOf
-returns-2 c = simp (c .failed .ensures, c .before .if2 .taken, c .before .before .before .if1 .left, ← c .before .before .before .before .is-idle .ensures)
+returns-2 c = simp (c .failed .ensures, c .before .if2 .taken, ← c .before .before .is-late .ensures, c .before .before .before .if1 .left, ← c .before .before .before .before .is-idle .ensures)
 
 failed-requires-2 : tie.Need-failed-requires-2
 failed-requires-2 c κs = search needs
@@ -40,7 +41,7 @@ landed-requires c κs = c .before .clock-after .ensures ∙ simp (c .before .bef
 
 returns-4 : tie.Need-returns-4
 unfolding advanceOf
-returns-4 c = simp (c .landed .ensures, c .before .moved .ensures, c .before .before .before .if3 .left, c .before .before .before .before .if2 .left, ← c .before .before .before .before .before .is-late .ensures, c .before .before .before .before .before .before .if1 .left, ← c .before .before .before .before .before .before .before .is-idle .ensures)
+returns-4 c = simp (toZ-ofZ (c .before .before .before .before .before .before .before .before .fits .v), c .landed .ensures, c .before .moved .ensures, c .before .before .clock-after .ensures, c .before .before .before .if3 .left, c .before .before .before .before .if2 .left, ← c .before .before .before .before .before .is-late .ensures, c .before .before .before .before .before .before .if1 .left, ← c .before .before .before .before .before .before .before .is-idle .ensures)
 
 pub advance-spec : {M : Type 1} → statement M
 advance-spec =

@@ -5,12 +5,8 @@ use mir.Val.{SFits}
 use mir.Facts.{toZ-ofZ}
 use Rattle.whole.specs.Machine.{sfits-of}
 use Rattle.outline.specs.DayBook.{bookOf}
-use Rattle.daybook.proofs.Fields.{Fields}
 use Rattle.daybook.proofs.book_tick.Statement.{statement}
 use Rattle.daybook.proofs.book_tick.Tie as tie
-
-fields : (s : tie.Start) → Fields (s .args .b)
-fields s = record { opening = search sfits-of; last = search sfits-of; refilled = search sfits-of; used = search sfits-of; unbooked = search sfits-of }
 
 enum-told : tie.Need-enum-told
 enum-told c = search needs
@@ -26,18 +22,7 @@ good-tick-requires c κs = search needs
 
 returns : tie.Need-returns
 unfolding bookOf
-returns c =
-    let e = c .before .before in
-    let f = fields (e .before .before) in
-    simp (
-      toZ-ofZ (f .opening),
-      toZ-ofZ (f .last),
-      toZ-ofZ (f .refilled),
-      toZ-ofZ (f .used),
-      toZ-ofZ (f .unbooked),
-      c .before .counted .ensures,
-      e .enum-told .given .1,
-    )
+returns c = simp (c .counted .ensures, c .before .enum-told .given .1)
 
 returns-2 : tie.Need-returns-2
 returns-2 c =

@@ -1,101 +1,117 @@
 -- One case of the definition for each sum that the change can go to.
 use borrow.Author.Needs.{needs}
-use mathlib.Core.Path.{sym, _∙_}
-use mir.Syntax.{w64}
+use borrow.Author.Tests.{ltb-true}
+use mathlib.Core.Path.{_≡_, sym, _∙_}
+use mathlib.Core.Bool.{Bool, true, false}
+use Prim.Native.Nat.{_+_}
+use native.Mathlib.Numerals.{add-one}
+use native.Mathlib.Omega.{arith}
+use lib.IntN.{ℤ, _-ℤ_}
+use mir.Syntax.{w32, w64}
+use mir.Val.{SFits}
 use mir.Facts.{toZ-ofZ}
-use Rattle.whole.specs.Bits.{got}
-use Rattle.whole.specs.Machine.{sfits-of}
-use Rattle.outline.specs.DayBook.{laterGood}
-use Rattle.daybook.proofs.Fields.{Fields}
+use Rattle.whole.specs.Machine.{sfits-of, fits-of}
+use Rattle.types.specs.declared.daybook.Book.{Book}
+use Rattle.outline.specs.Limits.{dayTicks}
+use Rattle.outline.specs.DayBook.{inDay, bookedOf, laterGood}
 use Rattle.daybook.proofs.later_good.Statement.{statement}
 use Rattle.daybook.proofs.later_good.Tie as tie
 
-fields : (s : tie.Start) → Fields (s .args .b)
-fields s = record { opening = search sfits-of; last = search sfits-of; refilled = search sfits-of; used = search sfits-of; unbooked = search sfits-of }
+-- what holding the book tells of the fields that a change is booked from
+last-fits : (s : tie.Start) → SFits w32 (s .args .b .last)
+last-fits s = search sfits-of
 
-counted-requires : tie.Need-counted-requires
-counted-requires c κs = search needs
+refilled-fits : (s : tie.Start) → SFits w64 (s .args .b .refilled)
+refilled-fits s = search sfits-of
+
+used-fits : (s : tie.Start) → SFits w64 (s .args .b .used)
+used-fits s = search sfits-of
+
+unbooked-fits : (s : tie.Start) → SFits w64 (s .args .b .unbooked)
+unbooked-fits s = search sfits-of
+
+in-day : (c : tie.Then1) → inDay (c .before .before .before .args .b) ≡ true
+in-day c = sym (c .before .is-in-day .ensures) ∙ c .if1 .taken
+
+-- ---- what the code makes of each sum, and the definition
+abbrev refilledBy : Book → ℤ → ℤ → Book
+refilledBy b raw sum = record { begun = true; opening = b .opening; last = raw; refilled = sum; used = b .used; unbooked = b .unbooked; ticks = b .ticks + 1 }
+
+abbrev usedBy : Book → ℤ → ℤ → Book
+usedBy b raw sum = record { begun = true; opening = b .opening; last = raw; refilled = b .refilled; used = sum; unbooked = b .unbooked; ticks = b .ticks + 1 }
+
+abbrev unbookedBy : Book → ℤ → ℤ → Book
+unbookedBy b raw sum = record { begun = true; opening = b .opening; last = raw; refilled = b .refilled; used = b .used; unbooked = sum; ticks = b .ticks }
+
+module _ (b : Book) (raw : ℤ) (contact : Bool) where
+  refill : inDay b ≡ true → contact ≡ true → refilledBy b raw (bookedOf (b .refilled) (raw -ℤ b .last)) ≡ laterGood b raw contact
+  unfolding laterGood
+  refill h k = simp (h, k, add-one)
+
+  use-up : inDay b ≡ true → contact ≡ false → usedBy b raw (bookedOf (b .used) (b .last -ℤ raw)) ≡ laterGood b raw contact
+  unfolding laterGood
+  use-up h k = simp (h, k, add-one)
+
+  unbook : inDay b ≡ false → unbookedBy b raw (bookedOf (b .unbooked) (b .last -ℤ raw)) ≡ laterGood b raw contact
+  unfolding laterGood
+  unbook h = simp h
 
 is-in-day-requires : tie.Need-is-in-day-requires
 is-in-day-requires c κs = search needs
+
+add-b : tie.Need-add-b
+add-b c =
+    let t = c .before in
+    fits-of (omega (arith, ltb-true (t .before .before .before .args .b .ticks) dayTicks (in-day t)))
 
 booked-requires : tie.Need-booked-requires
 booked-requires c κs = search needs
 
 returns : tie.Need-returns
-unfolding laterGood
 returns c =
-    let b = c .before in
-    let t = b .before .before .before in
-    let d = t .before .before in
-    let s = d .before .before in
-    let f = fields s in
-    simp (
-      got {w = w64} (b .booked .result) (b .booked .ok) .read ∙ b .booked .ensures,
-      toZ-ofZ (f .opening),
-      toZ-ofZ (f .last),
-      toZ-ofZ (f .refilled),
-      toZ-ofZ (f .used),
-      toZ-ofZ (f .unbooked),
-      toZ-ofZ (s .fits .raw),
-      d .before .counted .ensures,
-      sym (d .is-in-day .ensures) ∙ t .before .if1 .taken,
-      t .if2 .taken,
-    )
+    let d = c .before .before in
+    let t = d .before .before in
+    let s = t .before .before .before in
+    let b = s .args .b in
+    let new = toZ-ofZ (s .fits .raw) in
+    let sum : c .booked .result ≡ bookedOf (b .refilled) (s .args .raw -ℤ b .last) =
+    c .booked .ensures ∙ (λ i. bookedOf (toZ-ofZ (refilled-fits s) i) (new i -ℤ toZ-ofZ (last-fits s) i)) in
+    (λ i. refilledBy b (new i) (sum i)) ∙ refill b (s .args .raw) (s .args .contact) (in-day t) (d .if2 .taken)
 
 booked-requires-2 : tie.Need-booked-requires-2
 booked-requires-2 c κs = search needs
 
 returns-2 : tie.Need-returns-2
-unfolding laterGood
 returns-2 c =
-    let b = c .before in
-    let t = b .before .before .before in
-    let d = t .before .before in
-    let s = d .before .before in
-    let f = fields s in
-    simp (
-      got {w = w64} (b .booked2 .result) (b .booked2 .ok) .read ∙ b .booked2 .ensures,
-      toZ-ofZ (f .opening),
-      toZ-ofZ (f .last),
-      toZ-ofZ (f .refilled),
-      toZ-ofZ (f .used),
-      toZ-ofZ (f .unbooked),
-      toZ-ofZ (s .fits .raw),
-      d .before .counted .ensures,
-      sym (d .is-in-day .ensures) ∙ t .before .if1 .taken,
-      t .if2 .left,
-    )
+    let d = c .before .before in
+    let t = d .before .before in
+    let s = t .before .before .before in
+    let b = s .args .b in
+    let new = toZ-ofZ (s .fits .raw) in
+    let sum : c .booked2 .result ≡ bookedOf (b .used) (b .last -ℤ s .args .raw) =
+    c .booked2 .ensures ∙ (λ i. bookedOf (toZ-ofZ (used-fits s) i) (toZ-ofZ (last-fits s) i -ℤ new i)) in
+    (λ i. usedBy b (new i) (sum i)) ∙ use-up b (s .args .raw) (s .args .contact) (in-day t) (d .if2 .left)
 
 booked-requires-3 : tie.Need-booked-requires-3
 booked-requires-3 c κs = search needs
 
 returns-3 : tie.Need-returns-3
-unfolding laterGood
 returns-3 c =
-    let b = c .before in
-    let t = b .before .before .before in
+    let t = c .before .before in
     let d = t .before in
     let s = d .before .before in
-    let f = fields s in
-    simp (
-      got {w = w64} (b .booked3 .result) (b .booked3 .ok) .read ∙ b .booked3 .ensures,
-      toZ-ofZ (f .opening),
-      toZ-ofZ (f .last),
-      toZ-ofZ (f .refilled),
-      toZ-ofZ (f .used),
-      toZ-ofZ (f .unbooked),
-      toZ-ofZ (s .fits .raw),
-      d .before .counted .ensures,
-      sym (d .is-in-day .ensures) ∙ t .if1 .left,
-    )
+    let b = s .args .b in
+    let new = toZ-ofZ (s .fits .raw) in
+    let sum : c .booked3 .result ≡ bookedOf (b .unbooked) (b .last -ℤ s .args .raw) =
+    c .booked3 .ensures ∙ (λ i. bookedOf (toZ-ofZ (unbooked-fits s) i) (toZ-ofZ (last-fits s) i -ℤ new i)) in
+    (λ i. unbookedBy b (new i) (sum i)) ∙ unbook b (s .args .raw) (s .args .contact) (sym (d .is-in-day .ensures) ∙ t .if1 .left)
 
 pub later-good-spec : {M : Type 1} → statement M
 later-good-spec =
     tie.close
     (tie.spec
-    counted-requires
     is-in-day-requires
+    add-b
     booked-requires
     returns
     booked-requires-2

@@ -5,8 +5,8 @@ use mathlib.Core.Path.{sym, _∙_}
 use lib.ListN.{length}
 use denote.Ref.{now}
 use Rattle.outline.specs.Replies.{framed}
-use Rattle.replies.specs.Texts.{textOf}
-use Rattle.replies.specs.Lengths.{prefix-short, text-short, length-framed}
+use Rattle.outline.specs.Texts.{textOf}
+use Rattle.outline.specs.Lengths.{prefix-short, text-short, length-framed}
 use Rattle.replies.proofs.Stores.{more}
 use Rattle.replies.proofs.Whole.{no-text, some-text, silent-answer, silent-bytes, short-answer, short-bytes, fitted-answer, fitted-bytes}
 use borrow.Author.Needs.{needs}

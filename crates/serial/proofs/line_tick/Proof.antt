@@ -9,11 +9,14 @@ use Rattle.serial.proofs.line_tick.Tie as tie
 command-of-requires : tie.Need-command-of-requires
 command-of-requires c κs = search needs
 
-half-asked-requires : tie.Need-half-asked-requires
-half-asked-requires c κs = search needs
+request-of-requires : tie.Need-request-of-requires
+request-of-requires c κs = search needs
 
-due-after-requires : tie.Need-due-after-requires
-due-after-requires c κs = search needs
+tick-requires : tie.Need-tick-requires
+tick-requires c κs = search needs
+
+reply-due-requires : tie.Need-reply-due-requires
+reply-due-requires c κs = search needs
 
 write-reply-requires : tie.Need-write-reply-requires
 write-reply-requires c κs = search needs
@@ -21,28 +24,34 @@ write-reply-requires c κs = search needs
 enum-known-length : tie.Need-enum-known-length
 enum-known-length c = search needs
 
-finished-requires : tie.Need-finished-requires
-finished-requires c κs = search needs
+told-of-requires : tie.Need-told-of-requires
+told-of-requires c κs = search needs
+
+with-line-requires : tie.Need-with-line-requires
+with-line-requires c κs = search needs
 
 same-length : tie.Need-same-length
 same-length c = search needs
 
 returns : tie.Need-returns
 returns c =
-    let w = c .before .before .before .before .before .before in
-    let h = w .before .before .before in
-    let start = h .before .before .before .before in
+    let n = c .before .before .before in
+    let w = n .before .before .before .before in
+    let d = w .before .before in
+    let t = d .before .before in
+    let r = t .before in
+    let start = r .before .before .before .before in
     let a = start .args in
-    let asked = simp (toZ-ofZ (start .fits .count)) at (h .half-asked .ensures) in
-    fitted (a .s) (a .st) (a .count) (a .contact) (now (a .receive)) (now (a .reply)) _ _ _ _ _ (h .before .command-of .ensures) asked
-    (w .before .before .due-after .ensures) (w .write-reply .ensures .0) (w .write-reply .ensures .1)
-    _ (c .before .before .length .given .1) _ (c .finished .ensures)
+    let asked = simp (toZ-ofZ (start .fits .count)) at (t .tick .ensures) in
+    fitted (a .s) (a .st) (a .count) (a .contact) (now (a .receive)) (now (a .reply)) _ _ _ _ _ _ (r .before .command-of .ensures) (r .request-of .ensures) asked
+    (d .reply-due .ensures) (w .write-reply .ensures .0) (w .write-reply .ensures .1)
+    _ (n .length .given .1) _ (c .before .told-of .ensures) _ (c .with-line .ensures)
 
 enum-told : tie.Need-enum-told
 enum-told c = search needs
 
-unasked-requires : tie.Need-unasked-requires
-unasked-requires c κs = search needs
+silent-tick-requires : tie.Need-silent-tick-requires
+silent-tick-requires c κs = search needs
 
 same-length-2 : tie.Need-same-length-2
 same-length-2 c = search needs
@@ -50,27 +59,31 @@ same-length-2 c = search needs
 returns-2 : tie.Need-returns-2
 returns-2 c =
     let w = c .before .before .before .before .before in
-    let h = w .before .before .before in
-    let start = h .before .before .before .before in
+    let d = w .before .before in
+    let t = d .before .before in
+    let r = t .before in
+    let start = r .before .before .before .before in
     let a = start .args in
-    let asked = simp (toZ-ofZ (start .fits .count)) at (h .half-asked .ensures) in
-    short (a .s) (a .st) (a .count) (a .contact) (now (a .receive)) (now (a .reply)) _ _ _ _ _ (h .before .command-of .ensures) asked
-    (w .before .before .due-after .ensures) (w .write-reply .ensures .0) (w .write-reply .ensures .1)
-    (c .before .enum-told .given .1) _ (simp (toZ-ofZ (start .fits .count)) at (c .unasked .ensures))
+    let asked = simp (toZ-ofZ (start .fits .count)) at (t .tick .ensures) in
+    short (a .s) (a .st) (a .count) (a .contact) (now (a .receive)) (now (a .reply)) _ _ _ _ _ _ (r .before .command-of .ensures) (r .request-of .ensures) asked
+    (d .reply-due .ensures) (w .write-reply .ensures .0) (w .write-reply .ensures .1)
+    (c .before .enum-told .given .1) _ (simp (toZ-ofZ (start .fits .count)) at (c .silent-tick .ensures))
 
 pub line-tick-spec : {M : Type 1} → statement M
 line-tick-spec =
     tie.close
     (tie.spec
     command-of-requires
-    half-asked-requires
-    due-after-requires
+    request-of-requires
+    tick-requires
+    reply-due-requires
     write-reply-requires
     enum-known-length
-    finished-requires
+    told-of-requires
+    with-line-requires
     same-length
     returns
     enum-told
-    unasked-requires
+    silent-tick-requires
     same-length-2
     returns-2)

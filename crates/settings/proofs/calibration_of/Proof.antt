@@ -7,7 +7,7 @@ use mir.Facts.{toZ-ofZ}
 use Rattle.outline.specs.Settings.{settingsOf}
 use Rattle.whole.specs.Machine.{sfits-of}
 use Rattle.whole.specs.Bits.{Read, got, be, drop-need}
-use Rattle.ranges.specs.Held.{Held}
+use Rattle.settings.specs.Held.{Held}
 use Rattle.settings.proofs.Laws.{Narrow, narrow}
 use Rattle.settings.proofs.calibration_of.Statement.{statement}
 use Rattle.settings.proofs.calibration_of.Tie as tie

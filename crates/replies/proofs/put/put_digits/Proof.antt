@@ -6,7 +6,7 @@ use mathlib.Core.Path.{_≡_, refl, _∙_}
 use lib.ListN.{length, length-set}
 use lib.Seq.{sets}
 use Rattle.outline.specs.Replies.{digitsOf}
-use Rattle.replies.specs.Lengths.{length-digits}
+use Rattle.outline.specs.Lengths.{length-digits}
 use Rattle.replies.proofs.Stores.{digit-down, no-digits, done}
 use Rattle.replies.proofs.put.put_digits.Statement.{statement}
 use Rattle.replies.proofs.put.put_digits.Tie as tie

@@ -2,7 +2,7 @@
 use native.Mathlib.Nat.{add-zero}
 use native.Mathlib.Omega.{arith}
 use mathlib.Core.Path.{refl, sym, ap}
-use Rattle.replies.specs.Texts.{textLength}
+use Rattle.outline.specs.Texts.{textLength}
 use borrow.Author.Needs.{needs}
 use Rattle.replies.proofs.text.put_text.Statement.{statement}
 use Rattle.replies.proofs.text.put_text.Tie as tie

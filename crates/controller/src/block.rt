@@ -1,0 +1,56 @@
+// A block of counts, lent at once: the ticks one after another, with one contact and no requests.
+ghost use mathlib.Core.Path.{_≡_};
+ghost use Rattle.outline.specs.Tick.{blockOf};
+use types::machine::BlockAnswer;
+use types::machine::Blocked;
+use types::machine::State;
+use types::settings::Settings;
+
+// The counts of one block.
+const BLOCK_LIMIT: usize = 4_096;
+
+// With no request step 4 leaves the state as it is, and step 3's weights serve to the end. The ticks stand in the loop itself: a call that
+// takes the state and gives it back would copy it whole.
+pub fn run_block(s: Settings, mut st: State, counts: &[i32], contact: bool) -> Blocked
+    ensures { λ r. ⌜ r ≡ blockOf s st (now (counts .entry)) contact ⌝ }
+{
+    if BLOCK_LIMIT < counts.len() {
+        return Blocked {
+            answer: BlockAnswer::TooLong,
+            state: st,
+        };
+    }
+    // No tick of a block changes the setpoints: with a copy of them the state itself is lent to no call, and stays where it is quick.
+    let points = st.setpoints;
+    let batching = s.batching;
+    let mode = batching.mode;
+    let mut i = 0;
+    while i < counts.len() {
+        let count = counts[i];
+        let raw = weight::raw::raw_of(s.calibration, count);
+        st.stability = weight::stability::steadied(s.steadiness, st.stability, st.book.last, raw);
+        st.book = daybook::book_tick(st.book, raw, contact);
+        let x = weight::weigh(s, st.stability, st.weighing, raw, contact);
+        let sequence = st.sequence;
+        let stage = sequence.stage;
+        let idle = batch::sequence::is_idle(stage);
+        st.weighing = zero::tracking::tracked(s, idle, false, x, st.weighing);
+        if !idle {
+            let v = batch::comparison::compared(mode, x);
+            let fit = weight::is_fit(x);
+            let a = batch::advance(batching, points, st.sequence, !fit, x.stable, v);
+            if a.finished {
+                st.sequence = totals::booked_sequence(st.totals, v, a.sequence);
+                st.totals = totals::booked_totals(st.totals, v);
+            } else {
+                let after = a.sequence;
+                st.sequence = after;
+            }
+        }
+        i += 1;
+    }
+    Blocked {
+        answer: BlockAnswer::Run,
+        state: st,
+    }
+}

@@ -1,0 +1,39 @@
+// The opening: 10 and no state, or accepted settings and the state that goes with them.
+ghost use mathlib.Core.Path.{_≡_};
+ghost use Rattle.outline.specs.Settings.{openOf};
+ghost use Rattle.outline.specs.Tick.{openState};
+use types::machine::State;
+use types::settings::Given;
+use types::settings::Opening;
+use types::weight::Display;
+use types::weight::Stability;
+use types::weight::Weighing;
+
+pub fn open(g: Given) -> Opening
+    ensures { λ r. ⌜ r ≡ openOf g ⌝ }
+{
+    settings::open(g)
+}
+
+// The opening state, the same for all accepted settings.
+pub fn open_state() -> State
+    ensures { λ r. ⌜ r ≡ openState ⌝ }
+{
+    State {
+        book: daybook::open_book(),
+        stability: Stability {
+            good: false,
+            run: 0,
+        },
+        weighing: Weighing {
+            zero: 0,
+            tracked: 0,
+            counter: 0,
+            tare: 0,
+        },
+        display: Display::Gross,
+        setpoints: setpoints::open_setpoints(),
+        sequence: batch::sequence::open_sequence(),
+        totals: totals::clear_totals(),
+    }
+}

@@ -1,2 +1,0 @@
--- A law that a proof of this crate cites
-pub mod WordLaws

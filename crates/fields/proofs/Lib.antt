@@ -1,2 +1,0 @@
--- Laws that a proof of this crate cites
-pub mod FieldLaws

@@ -1,2 +1,0 @@
--- what holds of every tick with a line
-pub mod Kept

@@ -1,3 +1,0 @@
--- Laws that the proofs of this crate share
-pub mod ReceiveLaws
-pub mod TickLaws

@@ -1,0 +1,38 @@
+-- What each request may change, of the parts that a history speaks of. It is the one table by which the histories know a request: a new
+-- request is one row more.
+use mathlib.Core.Bool.{Bool, true, false}
+use Rattle.types.specs.declared.requests.Request.{Request}
+use Rattle.types.specs.declared.requests.Request.the-variants as request
+
+-- what is asked of the totals
+pub data Asked : Type 0 where
+  nothing : Asked
+  undo : Asked
+  clear : Asked
+
+pub record Kind : Type 0 where
+  -- a zero is keyed
+  pub zeroes : Bool
+  -- the day is closed
+  pub closes : Bool
+  -- setpoints are written
+  pub writes : Bool
+  pub ledger : Asked
+
+-- none of these
+abbrev pub elsewhere : Kind
+elsewhere = record { zeroes = false; closes = false; writes = false; ledger = nothing }
+
+abbrev pub requestKind : Request → Kind
+requestKind request.Nothing = elsewhere
+requestKind request.Zero = record { zeroes = true; closes = false; writes = false; ledger = nothing }
+requestKind request.Tare = elsewhere
+requestKind request.TareClear = elsewhere
+requestKind request.Start = elsewhere
+requestKind request.Stop = elsewhere
+requestKind (request.Set p) = record { zeroes = false; closes = false; writes = true; ledger = nothing }
+requestKind request.TotalClear = record { zeroes = false; closes = false; writes = false; ledger = clear }
+requestKind request.Undo = record { zeroes = false; closes = false; writes = false; ledger = undo }
+requestKind request.ShowGross = elsewhere
+requestKind request.ShowNet = elsewhere
+requestKind request.DayClose = record { zeroes = false; closes = true; writes = false; ledger = nothing }

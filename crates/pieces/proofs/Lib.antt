@@ -1,2 +1,0 @@
--- one turn of each loop
-mod Turns

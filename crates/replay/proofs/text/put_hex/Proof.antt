@@ -1,0 +1,68 @@
+-- The output's buffer keeps its length; what is left of the bytes is the measure.
+use Prim.Native.Nat.{_-_}
+use mathlib.Core.Path.{_≡_}
+use lib.ListN.{length}
+use borrow.Author.Needs.{needs}
+use Rattle.replay.proofs.text.put_hex.Statement.{statement}
+use Rattle.replay.proofs.text.put_hex.Tie as tie
+
+abbrev Inv-loop : tie.InvT-loop
+Inv-loop out₀ at bytes n₀ i₀ out n i = length out ≡ length out₀
+
+abbrev μ-loop : tie.MeasureT-loop
+μ-loop out₀ at bytes n₀ i₀ out n i = length bytes - i
+
+put-byte-requires : tie.Need-put-byte-requires Inv-loop μ-loop
+put-byte-requires c κs = search needs
+
+same-length : tie.Need-same-length Inv-loop μ-loop
+same-length c = search needs
+
+returns : tie.Need-returns Inv-loop μ-loop
+returns c = search needs
+
+loop-holds : tie.Need-loop-holds Inv-loop μ-loop
+loop-holds c = search needs
+
+shared-slice-read-wide-byte : tie.Need-shared-slice-read-wide-byte Inv-loop μ-loop
+shared-slice-read-wide-byte c = search needs
+
+wide-byte-requires : tie.Need-wide-byte-requires Inv-loop μ-loop
+wide-byte-requires c κs = search needs
+
+put-bits-requires : tie.Need-put-bits-requires Inv-loop μ-loop
+put-bits-requires c κs = search needs
+
+add-i : tie.Need-add-i Inv-loop μ-loop
+add-i c = search needs
+
+loop-less : tie.Need-loop-less Inv-loop μ-loop
+loop-less c = search needs
+
+loop-again : tie.Need-loop-again Inv-loop μ-loop
+loop-again c = search needs
+
+same-length-2 : tie.Need-same-length-2 Inv-loop μ-loop
+same-length-2 c = search needs
+
+returns-2 : tie.Need-returns-2 Inv-loop μ-loop
+returns-2 c = search needs
+
+pub put-hex-spec : {M : Type 1} → statement M
+put-hex-spec =
+    tie.close
+    (tie.spec
+    Inv-loop
+    μ-loop
+    put-byte-requires
+    same-length
+    returns
+    loop-holds
+    shared-slice-read-wide-byte
+    wide-byte-requires
+    put-bits-requires
+    add-i
+    loop-less
+    loop-again
+    same-length-2
+    returns-2)
