@@ -1,6 +1,7 @@
 // The analog value: f64, each operation rounded once, in the outline's order.
 ghost use mathlib.Core.Path.{_≡_};
 ghost use Rattle.outline.specs.Analog.{scaleOf, betweenOf, clipOf, analogOf};
+ghost use Rattle.analog.specs.Fitted.{fitted};
 use types::analog::Analog;
 use types::analog::Board;
 use types::analog::Scale;
@@ -40,11 +41,25 @@ fn clipped(x: f64, d: f64) -> f64
     between(0.0, d, x)
 }
 
+// There is a board. Asked first: without one nothing is worked out.
+fn is_fitted(board: Board) -> bool
+    ensures { λ r. ⌜ r ≡ fitted board ⌝ }
+{
+    match board {
+        Board::None => false,
+        Board::Current => true,
+        Board::Voltage => true,
+    }
+}
+
 // What the board is given; `fit` is a good tick without overload.
 pub fn analog_value(board: Board, scale: Scale, displayed: i32, fit: bool) -> Analog
     ensures { λ r. ⌜ r ≡ analogOf board scale displayed fit ⌝ }
 {
     if !fit {
+        return Analog::None;
+    }
+    if !is_fitted(board) {
         return Analog::None;
     }
     let w = displayed as f64;

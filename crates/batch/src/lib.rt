@@ -1,7 +1,8 @@
 // Step 6: the flow clock, the errors that end a batch, and the move that its stage makes.
 ghost use mathlib.Core.Path.{_≡_};
-ghost use mathlib.Core.Bool.{cond};
-ghost use Rattle.outline.specs.Stages.{factsAt, flowingOf, lateOf, clockOf, landOf, advanceOf};
+ghost use mathlib.Core.Bool.{true, cond};
+ghost use Prim.Native.Nat.{suc, _<_};
+ghost use Rattle.outline.specs.Stages.{factsAt, flowingOf, clockOf, landOf, advanceOf};
 use crate::sequence::failed;
 use crate::sequence::is_idle;
 use crate::stages::moved;
@@ -36,27 +37,13 @@ fn is_flowing(stage: Stage) -> bool
     }
 }
 
-// The flow clock of this tick is above Q.
-fn is_late(b: Batching, q: Sequence) -> bool
-    ensures { λ r. ⌜ r ≡ lateOf b q ⌝ }
+// The flow clock of this tick: one more in a flow stage, where it has not passed Q, and else 0.
+fn clock_after(clock: u16, flowing: bool) -> u16
+    requires { ⌜ (flowing ≡ true → clock < 65535) ⌝ }
+    ensures { λ r. ⌜ r ≡ cond flowing (suc clock) 0 ⌝ }
 {
-    let stage = q.stage;
-    if is_flowing(stage) {
-        return b.flow <= q.clock;
-    }
-    false
-}
-
-// The flow clock of this tick. Where it would be above Q it is not asked for, and 0 stands for it.
-fn clock_after(b: Batching, q: Sequence) -> u16
-    ensures { λ r. ⌜ r ≡ cond (lateOf b q) 0 (clockOf q) ⌝ }
-{
-    if is_late(b, q) {
-        return 0;
-    }
-    let stage = q.stage;
-    if is_flowing(stage) {
-        return q.clock + 1;
+    if flowing {
+        return clock + 1;
     }
     0
 }
@@ -112,18 +99,25 @@ pub fn advance(
             finished: false,
         };
     }
-    let late = is_late(b, q);
     if unfit {
         return Advanced {
             sequence: failed(q, SequenceError::BadWeight),
             finished: false,
         };
     }
-    if late {
-        return Advanced {
-            sequence: failed(q, SequenceError::FlowTime),
-            finished: false,
-        };
+    // The clock is tested before it grows: at Q it would pass Q in this tick.
+    let flowing = is_flowing(stage);
+    if flowing {
+        if b.flow <= q.clock {
+            return Advanced {
+                sequence: failed(q, SequenceError::FlowTime),
+                finished: false,
+            };
+        }
     }
-    landed(q, clock_after(b, q), moved(b, p, stage, unfit, stable, v))
+    landed(
+        q,
+        clock_after(q.clock, flowing),
+        moved(b, p, stage, unfit, stable, v),
+    )
 }

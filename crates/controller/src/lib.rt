@@ -2,7 +2,6 @@
 // back; nothing is asked of a caller. Each step is a call of its section, and assigns the part of the state that it makes: a function that
 // takes the state and gives it back would copy it whole.
 ghost use mathlib.Core.Path.{_≡_};
-ghost use Rattle.outline.specs.Parts.{withDisplay};
 ghost use Rattle.outline.specs.Tick.{tickOf};
 use crate::outputs::outputs;
 use types::daybook::Closed;
@@ -12,32 +11,12 @@ use types::machine::Ticked;
 use types::requests::Request;
 use types::settings::Settings;
 use types::weight::Display;
+use types::weight::Panel;
 
 pub mod block;
 pub mod opening;
 mod outputs;
 pub mod unasked;
-
-// A field that holds an enum is not assigned to: the state is built anew.
-fn with_display(st: State, x: Display) -> State
-    ensures { λ r. ⌜ r ≡ withDisplay st x ⌝ }
-{
-    let book = st.book;
-    let stability = st.stability;
-    let weighing = st.weighing;
-    let setpoints = st.setpoints;
-    let sequence = st.sequence;
-    let totals = st.totals;
-    State {
-        book,
-        stability,
-        weighing,
-        display: x,
-        setpoints,
-        sequence,
-        totals,
-    }
-}
 
 // One tick, in the outline's order. A tick that asks nothing may be had cheaper: `unasked::unasked_tick`.
 pub fn tick(s: Settings, mut st: State, i: Input) -> Ticked
@@ -89,10 +68,16 @@ pub fn tick(s: Settings, mut st: State, i: Input) -> Ticked
             st.totals = totals::take_back(st.totals);
         }
         Request::ShowGross => {
-            st = with_display(st, Display::Gross);
+            let panel = Panel {
+                display: Display::Gross,
+            };
+            st.panel = panel;
         }
         Request::ShowNet => {
-            st = with_display(st, Display::Net);
+            let panel = Panel {
+                display: Display::Net,
+            };
+            st.panel = panel;
         }
         Request::DayClose => {
             let day = st.book;
@@ -113,7 +98,14 @@ pub fn tick(s: Settings, mut st: State, i: Input) -> Ticked
         if !idle {
             let v = batch::comparison::compared(mode, served);
             let fit = weight::is_fit(served);
-            let a = batch::advance(batching, st.setpoints, st.sequence, !fit, served.stable, v);
+            let a = batch::advance(
+                s.batching,
+                st.setpoints,
+                st.sequence,
+                !fit,
+                served.stable,
+                v,
+            );
             if a.finished {
                 st.sequence = totals::booked_sequence(st.totals, v, a.sequence);
                 st.totals = totals::booked_totals(st.totals, v);

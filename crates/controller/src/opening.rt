@@ -6,6 +6,7 @@ use types::machine::State;
 use types::settings::Given;
 use types::settings::Opening;
 use types::weight::Display;
+use types::weight::Panel;
 use types::weight::Stability;
 use types::weight::Weighing;
 
@@ -28,10 +29,12 @@ pub fn open_state() -> State
         weighing: Weighing {
             zero: 0,
             tracked: 0,
-            counter: 0,
             tare: 0,
+            counter: 0,
         },
-        display: Display::Gross,
+        panel: Panel {
+            display: Display::Gross,
+        },
         setpoints: setpoints::open_setpoints(),
         sequence: batch::sequence::open_sequence(),
         totals: totals::clear_totals(),

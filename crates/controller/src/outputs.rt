@@ -39,7 +39,8 @@ pub(crate) fn outputs(
     let stage = sequence.stage;
     let judgement = sequence.judgement;
     let error = sequence.error;
-    let display = st.display;
+    let panel = st.panel;
+    let display = panel.display;
     let shown = weight::displayed(display, x);
     let fit = weight::is_fit(x);
     Answer {

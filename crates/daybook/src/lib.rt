@@ -11,9 +11,9 @@ const DAY_TICKS: u32 = 8_640_000;
 // A sum stops at it: a guard that no run meets.
 const BOOK_LIMIT: u64 = 69_120_000_000_000;
 
-// A sum within it, on either side of zero, needs no stop: no change from one raw to another takes such a sum to the limit. It is the largest
-// power of two below the limit, so that a machine tests both ends at once.
-const BOOK_PLAIN: i64 = 35_184_372_088_832;
+// A sum within it, on either side of zero, needs no stop: no change from one raw to another takes such a sum to the limit. It is a power of
+// two that fits an instruction, so that a machine tests both ends at once: as many tenths as some thousand tanks a day.
+const BOOK_PLAIN: i64 = 1_073_741_824;
 
 // The book of an opening: no good tick yet.
 pub fn open_book() -> Book

@@ -4,7 +4,7 @@ use mathlib.Core.Path.{_≡_, refl, ap}
 use Rattle.types.specs.declared.settings.Settings.{Settings}
 use Rattle.types.specs.declared.stages.Setpoints.{Setpoints}
 use Rattle.types.specs.declared.stages.Totals.{Totals}
-use Rattle.types.specs.declared.weight.Display.{Display}
+use Rattle.types.specs.declared.weight.Panel.{Panel}
 use Rattle.types.specs.declared.requests.Request.the-variants as request
 use Rattle.types.specs.declared.requests.Outcome.{Outcome}
 use Rattle.types.specs.declared.machine.State.{State}
@@ -25,9 +25,9 @@ module _ (s : Settings) (st : State) (i : Input) where
   unfolding settledOf decidedOf rulingOf grantedOf
   settled-unasked e = simp e
 
-  display-stays : i .request ≡ request.Nothing → settledOf s st i .state .display ≡ st .display
+  panel-stays : i .request ≡ request.Nothing → settledOf s st i .state .panel ≡ st .panel
   unfolding enteredOf
-  display-stays e = ap (λ (t : State). t .display) (settled-unasked e)
+  panel-stays e = ap (λ (t : State). t .panel) (settled-unasked e)
 
   totals-stay : i .request ≡ request.Nothing → settledOf s st i .state .totals ≡ st .totals
   unfolding enteredOf
@@ -38,7 +38,7 @@ module _ (s : Settings) (st : State) (i : Input) where
   setpoints-stay e = ap (λ (t : State). t .setpoints) (settled-unasked e)
 
   word-before : (w : Word) → i .request ≡ wordRequest w → (x : Reading) (o : Outcome) → wordReply w (settledOf s st i .state) x o ≡ wordReply w st x o
-  word-before word.ReadWeight e x o = ap (λ (d : Display). reply.Weight (shownOf d x)) (display-stays e)
+  word-before word.ReadWeight e x o = ap (λ (p : Panel). reply.Weight (shownOf (p .display) x)) (panel-stays e)
   word-before word.ReadTotal e x o = ap (λ (t : Totals). reply.Total (t .total) (t .count)) (totals-stay e)
   word-before word.ReadSetpoints e x o = ap (λ (p : Setpoints). reply.Points p) (setpoints-stay e)
   word-before word.Zero e x o = refl

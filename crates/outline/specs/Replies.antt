@@ -151,7 +151,7 @@ requestReply k (outcome.Refused n) = reply.Refused (refusalNumber n)
 
 -- "a read shows the state as step 4 leaves it", and the weights that serve its tick
 abbrev pub wordReply : Word → State → Reading → Outcome → Reply
-wordReply word.ReadWeight st x o = reply.Weight (shownOf (st .display) x)
+wordReply word.ReadWeight st x o = reply.Weight (shownOf (st .panel .display) x)
 wordReply word.ReadTotal st x o = reply.Total (st .totals .total) (st .totals .count)
 wordReply word.ReadSetpoints st x o = reply.Points (st .setpoints)
 wordReply word.Zero st x o = requestReply (lettersFor word.Zero) o

@@ -37,7 +37,7 @@ use Rattle.outline.specs.Tick.{enteredOf, weightsOf, settledOf, servedOf
 
 -- the state with what steps 1 to 5 of a tick without a request make anew
 abbrev pub partsOf : State → Book → Stability → Weighing → State
-partsOf st b q w = record { book = b; stability = q; weighing = w; display = st .display; setpoints = st .setpoints; sequence = st .sequence; totals = st .totals }
+partsOf st b q w = record { book = b; stability = q; weighing = w; panel = st .panel; setpoints = st .setpoints; sequence = st .sequence; totals = st .totals }
 
 -- ---- a tick that is asked nothing: steps 1 to 5, call by call
 pub record Parts (s : Settings) (contact : Bool) (st : State) (count : ℤ) (raw : Raw) (q : Stability) (b : Book) (x : Weights) (idle : Bool) (w : Weighing) : Type 0 where
@@ -81,7 +81,7 @@ module _ (s : Settings) (st : State) (x : Weights) where
     unfolding steppedOf finishedOf factsOf
     step-finished sq t e es et = simp (← en, ← ef, ← ev, ← ea, e, es, et)
 
--- ---- the outputs: no step after the request changes the display
+-- ---- the outputs: no step after the request changes the panel
 -- what they ask of step 4: its answer, with the state after step 6 in place of its own
 abbrev pub answeredOf : Outcome → Closed → State → Settled
 answeredOf o d st = record { outcome = o; state = st; held = false; keyed = false; closed = d }
@@ -90,20 +90,20 @@ cond-same : {A : Type 0} (t : Bool) (a : A) → cond t a a ≡ a
 cond-same true a = refl
 cond-same false a = refl
 
-step-display : (s : Settings) (st : State) (x : Weights) → steppedOf s st x .display ≡ st .display
+step-panel : (s : Settings) (st : State) (x : Weights) → steppedOf s st x .panel ≡ st .panel
 unfolding steppedOf finishedOf
-step-display s st x = simp cond-same
+step-panel s st x = simp cond-same
 
 -- nor the setpoints
 pub step-setpoints : (s : Settings) (st : State) (x : Weights) → steppedOf s st x .setpoints ≡ st .setpoints
 unfolding steppedOf finishedOf
 step-setpoints s st x = simp cond-same
 
-end-display : (s : Settings) (a : Settled) (x : Weights) → endedOf s a x .display ≡ a .state .display
+end-panel : (s : Settings) (a : Settled) (x : Weights) → endedOf s a x .panel ≡ a .state .panel
 unfolding endedOf withTracking
-end-display s a x = simp (step-display, cond-same)
+end-panel s a x = simp (step-panel, cond-same)
 
-shown : (s : Settings) (a : Settled) (x : Weights) (r : State) → r .display ≡ a .state .display
+shown : (s : Settings) (a : Settled) (x : Weights) (r : State) → r .panel ≡ a .state .panel
     → outputsOf s (answeredOf (a .outcome) (a .closed) r) x r ≡ outputsOf s a x r
 unfolding outputsOf
 shown s a x r e = simp e
@@ -115,15 +115,15 @@ pub parts-tick : {s : Settings} {contact : Bool} {st : State} {count : ℤ} {raw
 unfolding tickOf
 parts-tick {s} {contact} {st} {count} {q = q} {b = b} {x = x} p r o er eo =
     let next : r ≡ nextOf s st (unaskedOf count contact) = er ∙ parts-next p in
-    let same = shown s (plainly (partsOf st b q (st .weighing))) x r (ap (λ (t : State). t .display) er ∙ step-display s _ x) in
+    let same = shown s (plainly (partsOf st b q (st .weighing))) x r (ap (λ (t : State). t .panel) er ∙ step-panel s _ x) in
     λ i. record {
       state = next i;
       answer = (eo ∙ same ∙ (λ j. outputsOf s (parts-settled p j) (parts-served p j) (next j))) i;
     }
 
-next-display : (s : Settings) (st : State) (i : Input) → nextOf s st i .display ≡ settledOf s st i .state .display
+next-panel : (s : Settings) (st : State) (i : Input) → nextOf s st i .panel ≡ settledOf s st i .state .panel
 unfolding nextOf
-next-display s st i = end-display s (settledOf s st i) (servedOf s st i)
+next-panel s st i = end-panel s (settledOf s st i) (servedOf s st i)
 
 -- ---- a tick with a request
 -- what step 4 leaves, as the code has it: the state, whether step 6 is passed over, whether a zero was keyed, the day that was closed
@@ -173,13 +173,13 @@ module _ (st : State) (x : Weights) (d : Request) where
   unfolding grantedOf
   left-undo e t et = simp (e, et)
 
-  pub left-gross : d ≡ request.ShowGross → (r : State) → r ≡ withDisplay st display.Gross → leftOf outcome.Done r false false closed.Nothing ≡ grantedOf st x d
+  pub left-gross : d ≡ request.ShowGross → leftOf outcome.Done (withDisplay st display.Gross) false false closed.Nothing ≡ grantedOf st x d
   unfolding grantedOf
-  left-gross e r er = simp (e, er)
+  left-gross e = simp e
 
-  pub left-net : d ≡ request.ShowNet → (r : State) → r ≡ withDisplay st display.Net → leftOf outcome.Done r false false closed.Nothing ≡ grantedOf st x d
+  pub left-net : d ≡ request.ShowNet → leftOf outcome.Done (withDisplay st display.Net) false false closed.Nothing ≡ grantedOf st x d
   unfolding grantedOf
-  left-net e r er = simp (e, er)
+  left-net e = simp e
 
   pub left-close : d ≡ request.DayClose → (b : Book) → b ≡ closedOf (st .book) → leftOf outcome.Done (withBook st b) false false (closed.Day (st .book)) ≡ grantedOf st x d
   unfolding grantedOf
@@ -238,7 +238,7 @@ module _ {s : Settings} {st : State} {i : Input} {raw : Raw} {q : Stability} {b 
       → _≡_ {A = Ticked} (record { state = r; answer = a }) (tickOf s st i)
   unfolding tickOf
   asked-tick r a er ea =
-      let last : r .display ≡ st′ .display = ap (λ (t : State). t .display) er ∙ next-display s st i ∙ ap (λ (t : Settled). t .state .display) (sym left-settled) in
+      let last : r .panel ≡ st′ .panel = ap (λ (t : State). t .panel) er ∙ next-panel s st i ∙ ap (λ (t : Settled). t .state .panel) (sym left-settled) in
       let same = shown s (leftOf o st′ held keyed day) x′ r last in
       λ j. record {
         state = er j;

@@ -36,8 +36,8 @@ unfoldable pub openState : State
 openState = record {
   book = openBook;
   stability = record { good = false; run = 0 };
-  weighing = record { zero = pos 0; tracked = pos 0; counter = 0; tare = pos 0 };
-  display = display.Gross;
+  weighing = record { zero = pos 0; tracked = pos 0; tare = pos 0; counter = 0 };
+  panel = record { display = display.Gross };
   setpoints = openSetpoints;
   sequence = openSequence;
   totals = clearTotals;
@@ -106,7 +106,7 @@ outputsOf s a x st = record {
   error = st .sequence .error;
   near = nearOf (st .setpoints) x;
   full = fullOf (s .batching .mode) (st .setpoints) x;
-  analog = analogOf (s .board) (s .scale) (displayedOf (a .state .display) x) (fitOf x);
+  analog = analogOf (s .board) (s .scale) (displayedOf (a .state .panel .display) x) (fitOf x);
   closed = a .closed;
 }
 

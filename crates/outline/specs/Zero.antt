@@ -17,7 +17,7 @@ inZeroRange r raw = leb (10 * natAbs raw) (r .capacity * r .zeroing)
 
 -- "zero in force becomes raw, tracked becomes 0." Step 5 then makes the counter 0.
 abbrev pub zeroedOf : Weighing → ℤ → Weighing
-zeroedOf w raw = record { zero = raw; tracked = pos 0; counter = w .counter; tare = w .tare }
+zeroedOf w raw = record { zero = raw; tracked = pos 0; tare = w .tare; counter = w .counter }
 
 -- "Tare: accepted when gross divisions lie in 0..C"
 abbrev pub inTareRange : Range → ℤ → Bool
@@ -25,7 +25,7 @@ inTareRange r divisions = fromTo 0 (r .capacity) divisions
 
 -- "tare becomes gross."
 abbrev pub taredOf : Weighing → ℤ → Weighing
-taredOf w gross = record { zero = w .zero; tracked = w .tracked; counter = w .counter; tare = gross }
+taredOf w gross = record { zero = w .zero; tracked = w .tracked; tare = gross; counter = w .counter }
 
 -- "Tracking is off if q or w is 0."
 abbrev pub trackingOn : Tracking → Bool
@@ -40,11 +40,11 @@ abbrev pub mayMove : Settings → Weighing → Weights → Bool
 mayMove s w x = inZeroRange (s .range) (x .raw) && within (s .tracking .allowance) (w .tracked +ℤ x .fine)
 
 abbrev pub withCounter : Weighing → ℕ → Weighing
-withCounter w n = record { zero = w .zero; tracked = w .tracked; counter = n; tare = w .tare }
+withCounter w n = record { zero = w .zero; tracked = w .tracked; tare = w .tare; counter = n }
 
 -- "tracked changes by gross fine"
 abbrev pub movedOf : Weighing → Weights → Weighing
-movedOf w x = record { zero = x .raw; tracked = w .tracked +ℤ x .fine; counter = 0; tare = w .tare }
+movedOf w x = record { zero = x .raw; tracked = w .tracked +ℤ x .fine; tare = w .tare; counter = 0 }
 
 -- "At q the counter returns to 0, and the zero moves .. Otherwise nothing moves."
 abbrev pub countedUp : Settings → Weighing → Weights → Weighing

@@ -65,7 +65,8 @@ fn word_reply(w: Word, st: State, x: Reading, o: Outcome) -> Reply
 {
     match w {
         Word::ReadWeight => {
-            let display = st.display;
+            let panel = st.panel;
+            let display = panel.display;
             Reply::Weight(shown_of(display, x))
         }
         Word::ReadTotal => Reply::Total(st.totals.total, st.totals.count),

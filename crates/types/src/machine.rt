@@ -11,7 +11,7 @@ use crate::stages::SequenceError;
 use crate::stages::Setpoints;
 use crate::stages::Stage;
 use crate::stages::Totals;
-use crate::weight::Display;
+use crate::weight::Panel;
 use crate::weight::Stability;
 use crate::weight::Weighing;
 
@@ -19,7 +19,7 @@ pub struct State {
     pub book: Book,
     pub stability: Stability,
     pub weighing: Weighing,
-    pub display: Display,
+    pub panel: Panel,
     pub setpoints: Setpoints,
     pub sequence: Sequence,
     pub totals: Totals,

@@ -12,18 +12,24 @@ pub struct Stability {
     pub run: u16,
 }
 
-// The zero in force and what tracking moved it by, in tenths; the tracking counter; the tare, in display digits.
+// The zero in force and what tracking moved it by, in tenths; the tare, in display digits; the tracking counter. The narrow field stands
+// last, so that no gap between fields is copied with each tick.
 pub struct Weighing {
     pub zero: i32,
     pub tracked: i32,
-    pub counter: u16,
     pub tare: i32,
+    pub counter: u16,
 }
 
 // The weight that is displayed.
 pub enum Display {
     Gross,
     Net,
+}
+
+// What the front panel shows: an enum in a struct of its own, since a field that holds an enum can't be assigned.
+pub struct Panel {
+    pub display: Display,
 }
 
 // What a tick weighs, worked out in step 3 and again after step 4. The refill contact stands beside it, so that a rule on requests can

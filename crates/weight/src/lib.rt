@@ -19,6 +19,9 @@ const OVERLOAD_MARGIN: u64 = 8;
 // Gross and net stop at what an i32 holds.
 const DISPLAY_LIMIT: u64 = 2_147_483_647;
 
+// A weight within it, on either side of zero, needs no stop, and a machine tests both ends at once.
+const DISPLAY_PLAIN: i64 = 1_073_741_824;
+
 fn is_overloaded(r: Range, divisions: i64) -> bool
     ensures { λ r′. ⌜ r′ ≡ overloadOf r divisions ⌝ }
 {
@@ -28,6 +31,9 @@ fn is_overloaded(r: Range, divisions: i64) -> bool
 fn kept(x: i64) -> i32
     ensures { λ r. ⌜ r ≡ keptOf x ⌝ }
 {
+    if 0 - DISPLAY_PLAIN <= x && x < DISPLAY_PLAIN {
+        return x as i32;
+    }
     whole::limited(x, DISPLAY_LIMIT) as i32
 }
 

@@ -12,26 +12,20 @@ pub(crate) fn is_stable(rule: Steadiness, q: Stability) -> bool
     q.run == rule.time
 }
 
-// The run after a good tick whose raw changed by so much.
-fn steadied_good(rule: Steadiness, q: Stability, last: i32, raw: i32) -> Stability
-    ensures { λ r. ⌜ r ≡ steadiedOf rule q last (Raw.Tenths raw) ⌝ }
+// The run after a good tick.
+fn run_after(rule: Steadiness, q: Stability, last: i32, raw: i32) -> u16
+    ensures { λ r. ⌜ r ≡ steadiedOf rule q last (Raw.Tenths raw) .run ⌝ }
 {
     let change = whole::magnitude(whole::difference(raw, last));
     if q.good {
         if change <= 10 * (rule.width as u64) {
             if q.run < rule.time {
-                return Stability {
-                    good: true,
-                    run: q.run + 1,
-                };
+                return q.run + 1;
             }
-            return Stability {
-                good: true,
-                run: rule.time,
-            };
+            return rule.time;
         }
     }
-    Stability { good: true, run: 0 }
+    0
 }
 
 // The step; `last` is the last good raw before this tick.
@@ -43,6 +37,9 @@ pub fn steadied(rule: Steadiness, q: Stability, last: i32, raw: Raw) -> Stabilit
             good: false,
             run: 0,
         },
-        Raw::Tenths(t) => steadied_good(rule, q, last, t),
+        Raw::Tenths(t) => Stability {
+            good: true,
+            run: run_after(rule, q, last, t),
+        },
     }
 }

@@ -1,8 +1,8 @@
 -- Past the calls the answer is the board's, of the clipped x (`valued`); each arm cites it with its own board.
 use borrow.Author.Needs.{needs}
 use borrow.Author.Tests.{not-true, not-false}
-use mathlib.Core.Path.{_≡_, _∙_, ap}
-use mathlib.Core.Bool.{Bool, true}
+use mathlib.Core.Path.{_≡_, sym, _∙_, ap}
+use mathlib.Core.Bool.{Bool, true, false}
 use mir.Facts.{toZ-ofZ}
 use lib.IntN.{ℤ}
 use lib.Ieee.{Float, binary64, sub}
@@ -10,6 +10,7 @@ use Rattle.types.specs.declared.analog.Scale.{Scale}
 use Rattle.types.specs.declared.analog.Board.{Board}
 use Rattle.types.specs.declared.analog.Board.the-variants.{None, Current, Voltage}
 use Rattle.outline.specs.Analog.{f64, clipOf, distanceOf, onBoard, analogOf}
+use Rattle.analog.specs.Fitted.{fitted, no-value}
 use Rattle.analog.proofs.Literals.{is-0, is-4, is-10, is-16}
 use Rattle.analog.proofs.analog_value.Statement.{statement}
 use Rattle.analog.proofs.analog_value.Tie as tie
@@ -17,6 +18,18 @@ use Rattle.analog.proofs.analog_value.Tie as tie
 returns : tie.Need-returns
 unfolding analogOf
 returns c = simp (not-true (c .before .args .fit) (c .if1 .taken))
+
+is-fitted-requires : tie.Need-is-fitted-requires
+is-fitted-requires c κs = search needs
+
+returns-2 : tie.Need-returns-2
+unfolding analogOf
+returns-2 c =
+    let s = c .before .before .before in
+    let a = s .args in
+    let none : fitted (a .board) ≡ false = sym (c .before .is-fitted .ensures) ∙ not-true _ (c .if2 .taken) in
+    let x = distanceOf (a .scale) (a .displayed) in
+    simp (not-false (a .fit) (c .before .before .if1 .left), no-value (a .board) x (a .scale .span) none)
 
 int-to-float-w : tie.Need-int-to-float-w
 int-to-float-w c = search needs
@@ -38,34 +51,39 @@ picked : (board : Board) (s : Scale) (w : ℤ) (fit : Bool) (b : Board) (x : Flo
 unfolding analogOf
 picked board s w fit b x g e h = simp (g, e, h)
 
-valued : (c : tie.After-clipped) (b : Board) → c .before .before .before .before .args .board ≡ b
-    → onBoard b (c .clipped .result) (c .before .before .before .before .args .scale .span)
-    ≡ analogOf (c .before .before .before .before .args .board) (c .before .before .before .before .args .scale) (c .before .before .before .before .args .displayed) (c .before .before .before .before .args .fit)
+abbrev start : tie.After-clipped → tie.Start
+start c = c .before .before .before .before .before .before
+
+valued : (c : tie.After-clipped) (b : Board) → start c .args .board ≡ b
+    → onBoard b (c .clipped .result) (start c .args .scale .span)
+    ≡ analogOf (start c .args .board) (start c .args .scale) (start c .args .displayed) (start c .args .fit)
 valued c b e =
-    let s = c .before .before .before .before in
+    let s = start c in
     let a = s .args in
-    picked (a .board) (a .scale) (a .displayed) (a .fit) b (c .clipped .result) (not-false (a .fit) (c .before .before .before .if1 .left)) e
+    picked (a .board) (a .scale) (a .displayed) (a .fit) b (c .clipped .result) (not-false (a .fit) (c .before .before .before .before .before .if1 .left)) e
     (c .clipped .ensures ∙ ap (λ (z : ℤ). clipOf (sub binary64 (f64 z) (a .scale .low)) (a .scale .span)) (toZ-ofZ (s .fits .displayed)))
 
-returns-2 : tie.Need-returns-2
-returns-2 c = valued (c .before .before) None (c .enum-told .given .1)
-
 returns-3 : tie.Need-returns-3
-returns-3 c = simp (is-16, is-4) (valued (c .before .before) Current (c .enum-told2 .given .1))
+returns-3 c = valued (c .before .before) None (c .enum-told .given .1)
 
 returns-4 : tie.Need-returns-4
-returns-4 c = simp (is-10, is-0) (valued (c .before .before) Voltage (c .enum-told3 .given .1))
+returns-4 c = simp (is-16, is-4) (valued (c .before .before) Current (c .enum-told2 .given .1))
+
+returns-5 : tie.Need-returns-5
+returns-5 c = simp (is-10, is-0) (valued (c .before .before) Voltage (c .enum-told3 .given .1))
 
 pub analog-value-spec : {M : Type 1} → statement M
 analog-value-spec =
     tie.close
     (tie.spec
     returns
+    is-fitted-requires
+    returns-2
     int-to-float-w
     clipped-requires
     enum-told
     enum-told-2
     enum-told-3
-    returns-2
     returns-3
-    returns-4)
+    returns-4
+    returns-5)

@@ -88,14 +88,8 @@ take-back-requires c κs = search needs
 enum-told-9 : tie.Need-enum-told-9
 enum-told-9 c = search needs
 
-with-display-requires : tie.Need-with-display-requires
-with-display-requires c κs = search needs
-
 enum-told-10 : tie.Need-enum-told-10
 enum-told-10 c = search needs
-
-with-display-requires-2 : tie.Need-with-display-requires-2
-with-display-requires-2 c κs = search needs
 
 enum-told-11 : tie.Need-enum-told-11
 enum-told-11 c = search needs
@@ -168,9 +162,9 @@ left m =
     (⊎-elim
     (λ f. left-by (f .3) (f .4) (f .5) (f .6) (left-undo _ _ _ (f .1 .given .1) _ (f .2 .ensures)))
     (⊎-elim
-    (λ f. left-by (f .3) (f .4) (f .5) (f .6) (left-gross _ _ _ (f .1 .given .1) _ (f .2 .ensures)))
+    (λ f. left-by (f .2) (f .3) (f .4) (f .5) (left-gross _ _ _ (f .1 .given .1)))
     (⊎-elim
-    (λ f. left-by (f .3) (f .4) (f .5) (f .6) (left-net _ _ _ (f .1 .given .1) _ (f .2 .ensures)))
+    (λ f. left-by (f .2) (f .3) (f .4) (f .5) (left-net _ _ _ (f .1 .given .1)))
     (λ f. left-by (f .4) (f .5) (f .6) (f .7) (left-close _ _ _ (f .1 .given .1) _ (f .3 .ensures)))))))))))))
     (m .match .came)
 
@@ -259,9 +253,7 @@ tick-spec =
     enum-told-8
     take-back-requires
     enum-told-9
-    with-display-requires
     enum-told-10
-    with-display-requires-2
     enum-told-11
     closed-book-requires
     weigh-requires-2

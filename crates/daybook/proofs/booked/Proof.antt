@@ -10,8 +10,8 @@ use mir.Syntax.{w64}
 use mir.Val.{SFits, ofZ}
 use mir.Facts.{toZ-ofZ}
 use Rattle.whole.specs.Bits.{Read, arg, got, be, add, add-need}
-use Rattle.whole.specs.Ints.{int-elim, ints, linear, abs-add}
-use Rattle.whole.specs.Limit.{limitTo, limit-abs, limit-plain}
+use Rattle.whole.specs.Ints.{abs-add}
+use Rattle.whole.specs.Limit.{limitTo, limit-abs, limit-plain, inside}
 use Rattle.whole.specs.Machine.{diff-abs, add-fits}
 use Rattle.outline.specs.Limits.{bookLimit}
 use Rattle.outline.specs.DayBook.{limitOf, bookedOf}
@@ -26,10 +26,7 @@ change-small s = diff-abs (s .fits .to) (s .fits .from)
 
 -- ---- a plain sum
 abbrev plain : ℕ
-plain = 35184372088832
-
-inside : (x : ℤ) (n : ℕ) → leZ (negℤ (pos n)) x ≡ true → ltZ x (pos n) ≡ true → natAbs x ≤ n
-inside = int-elim _ (λ a b n h k. simp ints (omega (linear, simp ints at h, simp ints at k)))
+plain = 1073741824
 
 sum-small : (c : tie.Then2) → natAbs (c .before .before .args .sum) ≤ plain
 sum-small c =

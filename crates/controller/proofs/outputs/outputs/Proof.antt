@@ -34,7 +34,7 @@ unfolding outputsOf
 returns c =
     let f = c .before .before .before .before .before in
     let d = f .before in
-    let a = d .before .before .before .args in
+    let a = d .before .before .before .before .args in
     let shown = be (got {w = w32} (d .displayed .result) (d .displayed .ok)) (d .displayed .ensures) .read in
     λ i. record {
       outcome = a .outcome;

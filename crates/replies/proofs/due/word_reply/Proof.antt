@@ -23,7 +23,7 @@ request-reply-requires : tie.Need-request-reply-requires
 request-reply-requires c κs = search needs
 
 returns : tie.Need-returns
-returns c = simp (c .shown-of .ensures, c .before .enum-told .given .1)
+returns c = simp (c .shown-of .ensures, c .before .before .enum-told .given .1)
 
 returns-2 : tie.Need-returns-2
 returns-2 c = simp (c .enum-told2 .given .1)

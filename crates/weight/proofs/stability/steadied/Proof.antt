@@ -14,19 +14,20 @@ enum-told c = search needs
 enum-known-raw : tie.Need-enum-known-raw
 enum-known-raw c = search needs
 
-steadied-good-requires : tie.Need-steadied-good-requires
-steadied-good-requires c κs = search needs
+run-after-requires : tie.Need-run-after-requires
+run-after-requires c κs = search needs
 
 returns : tie.Need-returns
 unfolding steadiedOf
 returns c = simp (c .enum-told .given .1)
 
 returns-2 : tie.Need-returns-2
+unfolding steadiedOf
 returns-2 c =
     let g = c .before .before in
     let f : SFits w32 (g .raw .given .0 .0) = search sfits-of in
-    simp (c .steadied-good .ensures, toZ-ofZ (g .before .before .fits .last), toZ-ofZ f, g .raw .given .1)
+    simp (c .run-after .ensures, toZ-ofZ (g .before .before .fits .last), toZ-ofZ f, g .raw .given .1)
 
 pub steadied-spec : {M : Type 1} → statement M
 steadied-spec =
-    tie.close (tie.spec enum-told enum-known-raw steadied-good-requires returns returns-2)
+    tie.close (tie.spec enum-told enum-known-raw run-after-requires returns returns-2)

@@ -9,8 +9,8 @@ use mir.Facts.{toZ-ofZ}
 use Rattle.whole.specs.Bits.{got}
 use Rattle.outline.specs.Weight.{steadiedOf}
 use Rattle.outline.specs.Within.{inside, outside}
-use Rattle.weight.proofs.stability.steadied_good.Statement.{statement}
-use Rattle.weight.proofs.stability.steadied_good.Tie as tie
+use Rattle.weight.proofs.stability.run_after.Statement.{statement}
+use Rattle.weight.proofs.stability.run_after.Tie as tie
 
 abbrev changeOf : tie.After-magnitude → ℤ
 changeOf c = c .before .before .args .raw -ℤ c .before .before .args .last
@@ -38,8 +38,8 @@ cast-if2 c = search needs
 mul-if2 : tie.Need-mul-if2
 mul-if2 c = search needs
 
-add-t12 : tie.Need-add-t12
-add-t12 c = search needs
+add-result : tie.Need-add-result
+add-result c = search needs
 
 returns : tie.Need-returns
 unfolding steadiedOf
@@ -65,15 +65,15 @@ returns-4 : tie.Need-returns-4
 unfolding steadiedOf
 returns-4 c = simp (c .if1 .left)
 
-pub steadied-good-spec : {M : Type 1} → statement M
-steadied-good-spec =
+pub run-after-spec : {M : Type 1} → statement M
+run-after-spec =
     tie.close
     (tie.spec
     difference-requires
     magnitude-requires
     cast-if2
     mul-if2
-    add-t12
+    add-result
     returns
     returns-2
     returns-3
