@@ -14,6 +14,7 @@ pub mod Figures
 pub mod Worked
 pub mod LogFigures
 pub mod Rules
+pub mod Finishes
 -- what stays true: the book, requests
 pub mod BookStep
 pub mod DaySums
@@ -23,6 +24,7 @@ pub mod RefusalLaw
 -- the zero, the totals, the gates
 pub mod ZeroStep
 pub mod ZeroRun
+pub mod FinishStep
 pub mod TotalStep
 pub mod TotalRun
 pub mod QuietStep

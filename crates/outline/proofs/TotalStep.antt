@@ -30,6 +30,7 @@ use Rattle.outline.specs.Kinds.{Asked, nothing, undo, clear, requestKind
 use Rattle.outline.specs.Ledger.{eventOf, Ledger, sumN, totalOf, countOf, takeBack, askStep, canBook, finishStep}
 use Rattle.whole.specs.Chains.{links}
 use Rattle.outline.proofs.Parts.{cond-same, clash}
+use Rattle.outline.proofs.FinishStep.{tick-finish, tick-weight}
 
 -- ---- how the totals agree with the ledger
 -- the differences of an undo do not stop at 0
@@ -145,6 +146,7 @@ module _ (s : Settings) (st : State) (i : Input) where
   unfolding nextOf settledOf enteredOf eventOf
   next-totals =
       ended-totals s (settledOf s st i) (servedOf s st i)
+      ∙ (λ j. finishTotals (tick-finish s st i j) (tick-weight s st i j) (settledOf s st i .state .totals))
       ∙ ap (finishTotals (eventOf s st i .finished) (eventOf s st i .weight)) (settled-totals s _ _ (i .request))
 
   pub tick-totals : (l : Ledger) → Totalled (st .totals) l →

@@ -1,5 +1,5 @@
--- What each request may change, of the parts that a history speaks of. It is the one table by which the histories know a request: a new
--- request is one row more.
+-- What each request asks, of what a history speaks of. It is the one table by which the histories know a request: a new request is one
+-- row more.
 use mathlib.Core.Bool.{Bool, true, false}
 use Rattle.types.specs.declared.requests.Request.{Request}
 use Rattle.types.specs.declared.requests.Request.the-variants as request
@@ -17,22 +17,28 @@ pub record Kind : Type 0 where
   pub closes : Bool
   -- setpoints are written
   pub writes : Bool
+  -- "Step 6 is passed over in a tick with an accepted start, or a stop."
+  pub skips : Bool
   pub ledger : Asked
 
 -- none of these
 abbrev pub elsewhere : Kind
-elsewhere = record { zeroes = false; closes = false; writes = false; ledger = nothing }
+elsewhere = record { zeroes = false; closes = false; writes = false; skips = false; ledger = nothing }
+
+-- a start, a stop
+abbrev pub skipping : Kind
+skipping = record { zeroes = false; closes = false; writes = false; skips = true; ledger = nothing }
 
 abbrev pub requestKind : Request → Kind
 requestKind request.Nothing = elsewhere
-requestKind request.Zero = record { zeroes = true; closes = false; writes = false; ledger = nothing }
+requestKind request.Zero = record { zeroes = true; closes = false; writes = false; skips = false; ledger = nothing }
 requestKind request.Tare = elsewhere
 requestKind request.TareClear = elsewhere
-requestKind request.Start = elsewhere
-requestKind request.Stop = elsewhere
-requestKind (request.Set p) = record { zeroes = false; closes = false; writes = true; ledger = nothing }
-requestKind request.TotalClear = record { zeroes = false; closes = false; writes = false; ledger = clear }
-requestKind request.Undo = record { zeroes = false; closes = false; writes = false; ledger = undo }
+requestKind request.Start = skipping
+requestKind request.Stop = skipping
+requestKind (request.Set p) = record { zeroes = false; closes = false; writes = true; skips = false; ledger = nothing }
+requestKind request.TotalClear = record { zeroes = false; closes = false; writes = false; skips = false; ledger = clear }
+requestKind request.Undo = record { zeroes = false; closes = false; writes = false; skips = false; ledger = undo }
 requestKind request.ShowGross = elsewhere
 requestKind request.ShowNet = elsewhere
-requestKind request.DayClose = record { zeroes = false; closes = true; writes = false; ledger = nothing }
+requestKind request.DayClose = record { zeroes = false; closes = true; writes = false; skips = false; ledger = nothing }

@@ -2,42 +2,64 @@
 use Prim.Native.Nat.{ℕ, suc, _+_, _-_}
 use mathlib.Core.Bool.{Bool, true, false, cond, not, _&&_}
 use mathlib.Core.List.{List, [], _∷_}
-use lib.Dec.{leb}
+use lib.Dec.{leb, ltb, eqb}
 use lib.ListN.{length}
-use lib.IntN.{ℤ, natAbs}
+use lib.IntN.{ℤ, natAbs, negℤ}
 use lib.Signed.{nonNeg}
+use Rattle.types.specs.declared.settings.Mode.{Mode}
+use Rattle.types.specs.declared.settings.Mode.the-variants as mode
 use Rattle.types.specs.declared.settings.Settings.{Settings}
 use Rattle.types.specs.declared.stages.Batch.{Batch}
 use Rattle.types.specs.declared.stages.Batch.the-variants as batch
 use Rattle.types.specs.declared.machine.State.{State}
 use Rattle.types.specs.declared.machine.Input.{Input}
 use Rattle.outline.specs.Limits.{totalLimit, batchLimit}
-use Rattle.outline.specs.Stages.{comparedOf, factsOf, advanceOf}
+use Rattle.outline.specs.Requests.{doneOf}
 use Rattle.outline.specs.Tick.{settledOf, servedOf}
+use Rattle.outline.specs.Numbers.{stageNumber}
 use Rattle.outline.specs.Kinds.{Asked, nothing, undo, clear, requestKind}
 use Rattle.outline.specs.Run.{History, start, _▷_, runOf}
 
--- a tick: what it asks, and whether a batch finished at it, with which compared weight
+-- ---- what a tick is to the totals
+-- "Step 6 is passed over in a tick with an accepted start, or a stop."
+abbrev pub passedOver : Settings → State → Input → Bool
+passedOver s st i = doneOf (settledOf s st i .outcome) && requestKind (i .request) .skips
+
+-- "flow clock, .. one more each tick through 11, above Q, error 6": with this tick it is one more than the state before it has
+abbrev pub clockPassed : Settings → State → Bool
+clockPassed s st = ltb (s .batching .flow) (suc (st .sequence .clock))
+
+-- "11 until stable, then the batch finishes"; but a bad or overloaded tick is error 9, and one past the flow limit error 6
+abbrev pub finishes : Settings → State → Input → Bool
+finishes s st i =
+    let x = servedOf s st i in
+    not (passedOver s st i) && eqb (stageNumber (st .sequence .stage)) 11
+    && x .good && not (x .overload) && not (clockPassed s st) && x .stable
+
+-- "Compared weight v is net in mode 1, minus net in mode 2."
+abbrev pub batchWeight : Mode → ℤ → ℤ
+batchWeight mode.Normal net = net
+batchWeight mode.Loss net = negℤ net
+
+-- a tick: what it asks, and whether a batch finishes at it, with which weight
 pub record Event : Type 0 where
   pub asked : Asked
   pub finished : Bool
   pub weight : ℤ
 
+-- the state is the one before the tick; of the tick itself it takes step 4's outcome and weights
 unfoldable pub eventOf : Settings → State → Input → Event
-eventOf s st i =
-    let a = settledOf s st i in
-    let x = servedOf s st i in
-    let p = a .state .setpoints in
-    record {
-      asked = requestKind (i .request) .ledger;
-      finished = not (a .held) && advanceOf (s .batching) p (a .state .sequence) (factsOf (s .batching .mode) p x) .finished;
-      weight = comparedOf (s .batching .mode) x;
-    }
+eventOf s st i = record {
+  asked = requestKind (i .request) .ledger;
+  finished = finishes s st i;
+  weight = batchWeight (s .batching .mode) (servedOf s st i .net);
+}
 
 abbrev pub eventRun : Settings → History Input → History Event
 eventRun s start = start
 eventRun s (h ▷ i) = eventRun s h ▷ eventOf s (runOf s h) i
 
+-- ---- the ledger
 -- the batches booked since the last clear, those taken back since then, and the one that can still be taken back
 pub record Ledger : Type 0 where
   pub booked : List ℕ

@@ -22,6 +22,7 @@ pub mod Figures
 pub mod Worked
 pub mod LogFigures
 pub mod Rules
+pub mod Finishes
 pub mod Owed
 pub mod AnalogOwed
 -- runs, their histories, and what stays true over them

@@ -4,6 +4,7 @@ ghost use Rattle.outline.specs.Figures.{Starred, Runs, Table};
 ghost use Rattle.outline.specs.Worked.{Batches, Letters, Lines};
 ghost use Rattle.outline.specs.LogFigures.{Logs};
 ghost use Rattle.outline.specs.Rules.{Weighed, Refused, Staged, Booked};
+ghost use Rattle.outline.specs.Finishes.{Finished};
 ghost use Rattle.outline.specs.Owed.{RawLaw, SetpointLaw, TimedLaw};
 ghost use Rattle.outline.specs.AnalogOwed.{ScaleLaw, AnalogLaws};
 ghost use Rattle.outline.specs.EveryLine.{ReplyBounded, BytesStay, AnsweredInOrder, RefusedLines, ReadBackOnLine};
@@ -23,6 +24,7 @@ pub fn paper_holds()
     ensures refused { λ r. ⌜ Refused ⌝ }
     ensures staged { λ r. ⌜ Staged ⌝ }
     ensures booked { λ r. ⌜ Booked ⌝ }
+    ensures finished { λ r. ⌜ Finished ⌝ }
     ensures raw { λ r. ⌜ RawLaw ⌝ }
     ensures setpoints { λ r. ⌜ SetpointLaw ⌝ }
     ensures timed { λ r. ⌜ TimedLaw ⌝ }
