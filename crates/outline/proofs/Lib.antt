@@ -48,3 +48,4 @@ pub mod LineEnds
 pub mod LineBytes
 pub mod LineOrder
 pub mod LineBack
+pub mod LineRuns

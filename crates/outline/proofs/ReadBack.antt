@@ -1,9 +1,9 @@
--- Setpoints written on the line read back as the same figures: an accepted SS, ticks that write no setpoints, then RS.
+-- Setpoints written on the line read back as the same figures: an accepted SS, ticks of which none writes setpoints, then RS.
 -- Assumes nothing.
 use Prim.Native.Nat.{ℕ, _+_}
 use native.Mathlib.Omega.{arith}
 use mathlib.Core.Path.{_≡_, refl, ap, _∙_}
-use mathlib.Core.Bool.{Bool, true, false, cond}
+use mathlib.Core.Bool.{Bool, true, false, cond, _&&_}
 use mathlib.Core.List.{List, [], _∷_}
 use lib.Dec.{leb, ltb, eqb}
 use lib.ListN.{length, getD}
@@ -85,7 +85,7 @@ figures s receive p e =
     (spoken-fields (lineOf receive) (s .address) p (command-spoken (kindOf receive) (spokenOf (lineOf receive) (s .address)) p e))
 
 -- ---- SS was accepted: the tick leaves its setpoints
-told-done : (o : Outcome) → outcomeTold o ≡ told.Done → o ≡ outcome.Done
+pub told-done : (o : Outcome) → outcomeTold o ≡ told.Done → o ≡ outcome.Done
 told-done outcome.Done e = refl
 told-done (outcome.Refused n) e = let z : _≡_ {A = ℕ} 0 1 = cc in absurd (omega arith)
 
@@ -113,22 +113,22 @@ written s st count contact receive buffer p e =
     (λ d. tick-set s st asked p (set-request _ p e) (set-told _ _ p e d)) (λ d. let z : _≡_ {A = ℕ} 0 1 = cc in omega arith)
 
 -- ---- ticks that write no setpoints leave them
-kept : (s : Settings) (h : History Input) (later : List Input) → NoneSet later → runOf s (thenAll h later) .setpoints ≡ runOf s h .setpoints
+kept : (s : Settings) (h : History Input) (later : List Input) → NoneSet s (runOf s h) later → runOf s (thenAll h later) .setpoints ≡ runOf s h .setpoints
 unfolding runOf thenAll
 kept s h [] n = refl
 kept s h (i ∷ later) n = kept s (h ▷ i) later (n .1) ∙ tick-setpoints s (runOf s h) i (n .0)
 
 -- ---- RS replies with the setpoints as they are
-read-request : (c : Command) → c ≡ command.Do word.ReadSetpoints → requestKind (requestOf c) .writes ≡ false
+read-request : (c : Command) (done : Bool) → c ≡ command.Do word.ReadSetpoints → requestKind (requestOf c) .writes && done ≡ false
 unfolding requestOf
-read-request c e = rw e
+read-request c done e = rw e
 
 due : (s : Settings) (st : State) (count : ℤ) (contact : Bool) (receive : List ℕ) → commandOf receive (s .address) ≡ command.Do word.ReadSetpoints
     → dueText s st count contact receive ≡ framed (s .address) (pointsText (st .setpoints))
 unfolding dueText replyText replyDue
 due s st count contact receive e =
     ap (λ (c : Command). replyText (s .address) (replyDue c (settledOf s st asked .state) (readingOf (servedOf s st asked)) (settledOf s st asked .outcome))) e
-    ∙ ap (λ (p : Setpoints). framed (s .address) (pointsText p)) (settled-kept s st asked (read-request _ e))
+    ∙ ap (λ (p : Setpoints). framed (s .address) (pointsText p)) (settled-kept s st asked (read-request _ _ e))
   where
     asked : Input
     asked = askedOf s count contact receive

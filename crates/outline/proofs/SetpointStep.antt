@@ -1,6 +1,6 @@
 -- The setpoints, tick by tick: an accepted SS writes them, and nothing else does. Assumes nothing.
-use mathlib.Core.Path.{_≡_, refl, _∙_}
-use mathlib.Core.Bool.{false}
+use mathlib.Core.Path.{_≡_, refl, sym, _∙_}
+use mathlib.Core.Bool.{Bool, true, false, cond, _&&_}
 use Rattle.types.specs.declared.settings.Settings.{Settings}
 use Rattle.types.specs.declared.weight.Weights.{Weights}
 use Rattle.types.specs.declared.requests.Request.{Request}
@@ -10,10 +10,11 @@ use Rattle.types.specs.declared.stages.Setpoints.{Setpoints}
 use Rattle.types.specs.declared.machine.State.{State}
 use Rattle.types.specs.declared.machine.Input.{Input}
 use Rattle.types.specs.declared.machine.Settled.{Settled}
-use Rattle.outline.specs.Requests.{grantedOf, decidedOf}
-use Rattle.outline.specs.Tick.{enteredOf, settledOf, servedOf, steppedOf, finishedOf, withTracking, endedOf, nextOf}
+use Rattle.outline.specs.Requests.{rulingOf, doneOf, grantedOf, decidedOf}
+use Rattle.outline.specs.Tick.{enteredOf, settledOf, servedOf, steppedOf, finishedOf, withTracking, endedOf, nextOf, outputsOf, tickOf}
 use Rattle.outline.specs.Kinds.{requestKind}
-use Rattle.outline.proofs.Parts.{cond-same, clash}
+use Rattle.outline.specs.StaysTrue.{setsAt}
+use Rattle.outline.proofs.Parts.{cond-same, and-yes, clash}
 
 -- step 4
 granted-setpoints : (st : State) (x : Weights) (r : Request) → requestKind r .writes ≡ false → grantedOf st x r .state .setpoints ≡ st .setpoints
@@ -31,16 +32,23 @@ granted-setpoints st x request.ShowGross e = refl
 granted-setpoints st x request.ShowNet e = refl
 granted-setpoints st x request.DayClose e = refl
 
-by-kept : (s : Settings) (st : State) (x : Weights) (r : Request) → requestKind r .writes ≡ false → decidedOf s st x r .state .setpoints ≡ st .setpoints
+-- a write that is refused is none
+unless-written : (done : Bool) (st : State) (x : Weights) (r : Request) → requestKind r .writes && done ≡ false
+    → cond done (grantedOf st x r .state .setpoints) (st .setpoints) ≡ st .setpoints
+unless-written true st x r e = granted-setpoints st x r (sym (and-yes (requestKind r .writes)) ∙ e)
+unless-written false st x r e = refl
+
+by-kept : (s : Settings) (st : State) (x : Weights) (r : Request) → requestKind r .writes && doneOf (decidedOf s st x r .outcome) ≡ false
+    → decidedOf s st x r .state .setpoints ≡ st .setpoints
 unfolding decidedOf
-by-kept s st x r e = simp (granted-setpoints st x r e, cond-same)
+by-kept s st x r e = unless-written (doneOf (rulingOf s st x r)) st x r e
 
 by-set : (s : Settings) (st : State) (x : Weights) (r : Request) (p : Setpoints) → r ≡ request.Set p → decidedOf s st x r .outcome ≡ outcome.Done → decidedOf s st x r .state .setpoints ≡ p
 unfolding decidedOf grantedOf
 by-set s st x r p e d = rw d (rw e)
 
-pub settled-kept : (s : Settings) (st : State) (i : Input) → requestKind (i .request) .writes ≡ false → settledOf s st i .state .setpoints ≡ st .setpoints
-unfolding settledOf enteredOf
+pub settled-kept : (s : Settings) (st : State) (i : Input) → setsAt s st i ≡ false → settledOf s st i .state .setpoints ≡ st .setpoints
+unfolding settledOf enteredOf tickOf outputsOf
 settled-kept s st i e = by-kept s _ _ (i .request) e
 
 settled-set : (s : Settings) (st : State) (i : Input) (p : Setpoints) → i .request ≡ request.Set p → settledOf s st i .outcome ≡ outcome.Done
@@ -54,7 +62,7 @@ unfolding endedOf steppedOf finishedOf withTracking
 ended-setpoints s a x = simp cond-same
 
 -- a whole tick
-pub tick-setpoints : (s : Settings) (st : State) (i : Input) → requestKind (i .request) .writes ≡ false → nextOf s st i .setpoints ≡ st .setpoints
+pub tick-setpoints : (s : Settings) (st : State) (i : Input) → setsAt s st i ≡ false → nextOf s st i .setpoints ≡ st .setpoints
 unfolding nextOf
 tick-setpoints s st i e = ended-setpoints s (settledOf s st i) (servedOf s st i) ∙ settled-kept s st i e
 

@@ -1,5 +1,5 @@
--- What holds of every tick with a line, whatever the settings, the state and the two buffers: the outline's section "Serial lines" as
--- named statements. They are proved in proofs/, and `every_line` has them as its `ensures`.
+-- What holds of every tick with a line, whatever the two buffers: the outline's section "Serial lines" as named statements, for whatever
+-- settings and state, or for every run (4 and 5). They are proved in proofs/, and `every_line` has them as its `ensures`.
 use Prim.Native.Nat.{ℕ, _≤_}
 use mathlib.Core.Path.{_≡_}
 use mathlib.Core.Bool.{Bool, true, false, _&&_, _||_}
@@ -8,7 +8,9 @@ use lib.Dec.{leb}
 use lib.ListN.{length, drop}
 use lib.IntN.{ℤ}
 use Rattle.types.specs.declared.settings.Settings.{Settings}
+use Rattle.types.specs.declared.daybook.Closed.the-variants as closed
 use Rattle.types.specs.declared.stages.Setpoints.{Setpoints}
+use Rattle.types.specs.declared.stages.SequenceError.the-variants as error
 use Rattle.types.specs.declared.machine.State.{State}
 use Rattle.types.specs.declared.machine.Input.{Input}
 use Rattle.types.specs.declared.lines.LineKind.{LineKind}
@@ -18,7 +20,8 @@ use Rattle.types.specs.declared.lines.Word.the-variants as word
 use Rattle.types.specs.declared.lines.Command.the-variants as command
 use Rattle.types.specs.declared.lines.LineAnswer.the-variants as told
 use Rattle.outline.specs.Limits.{lineLimit}
-use Rattle.outline.specs.Tick.{settledOf, tickOf, unaskedOf}
+use Rattle.outline.specs.Stages.{shut}
+use Rattle.outline.specs.Tick.{settledOf, nextOf, tickOf, unaskedOf}
 use Rattle.outline.specs.Lines.{lineOf, kindOf, prefixLength, isPrefixed, bodyOf, commandOf}
 use Rattle.outline.specs.Numbers.{toldNumber}
 use Rattle.outline.specs.Replies.{framed, outcomeTold, askedOf, dueText, lineTickOf, replyBuffer}
@@ -26,7 +29,7 @@ use Rattle.outline.specs.Owed.{Accepted}
 use Rattle.outline.specs.Run.{History, _▷_, runOf, thenAll, lineInput}
 use Rattle.outline.specs.StaysTrue.{NoneSet, figuresOf}
 
--- ---- 1. a reply is a line with its CR LF, "at most 64" bytes of it all told, and never more than the buffer that holds it
+-- ---- 1. a reply has at most 64 bytes, prefix and CR LF among them, and never more than its buffer
 pub record Bounded (s : Settings) (st : State) (count : ℤ) (contact : Bool) (receive buffer : List ℕ) : Type 0 where
   pub line : lineTickOf s st count contact receive buffer .length ≤ lineLimit
   pub room : lineTickOf s st count contact receive buffer .length ≤ length buffer
@@ -80,7 +83,7 @@ pub record Answered (s : Settings) (st : State) (count : ℤ) (contact : Bool) (
   -- else a missing prefix: 12, likewise
   pub other-address : isLine (kindOf receive) ≡ true → isPrefixed (lineOf receive) (s .address) ≡ false
       → lineTickOf s st count contact receive buffer .told ≡ told.OtherAddress
-  -- else 14 stands for every other answer that has no room
+  -- 14 stands for every answer whose reply has no room; the two above have an empty reply, which always has
   pub short-buffer : isFitting s st count contact receive buffer ≡ false
       → lineTickOf s st count contact receive buffer .told ≡ told.ShortBuffer
   -- else 11 or 13, by what stands after the prefix
@@ -116,13 +119,26 @@ pub record Replied (s : Settings) (st : State) (count : ℤ) (contact : Bool) (r
   pub long : lineTickOf s st count contact receive buffer .length ≡ length text
   pub bytes : replyBuffer s st count contact receive buffer ≡ text ++ drop (length text) buffer
 
--- an accepted SS, then any ticks that write no setpoints, then RS with room for its reply: the figures of SS stand in the buffer
+-- an accepted SS, then any ticks of which none writes setpoints, then RS with room for its reply: the figures of SS stand in the buffer
 abbrev pub ReadBackOnLine : Type 0
 ReadBackOnLine = (s : Settings) → Accepted s → (h : History Input) (count : ℤ) (contact : Bool) (receive buffer : List ℕ) (p : Setpoints)
     → commandOf receive (s .address) ≡ command.Set p
     → lineTickOf s (runOf s h) count contact receive buffer .told ≡ told.Done
-    → (later : List Input) → NoneSet later
+    → let after = h ▷ lineInput s (runOf s h) count contact receive buffer in
+    (later : List Input) → NoneSet s (runOf s after) later
     → (count′ : ℤ) (contact′ : Bool) (receive′ buffer′ : List ℕ) → commandOf receive′ (s .address) ≡ command.Do word.ReadSetpoints
     → length (framed (s .address) (figuresOf s receive)) ≤ length buffer′
-    → Replied s (runOf s (thenAll (h ▷ lineInput s (runOf s h) count contact receive buffer) later)) count′ contact′ receive′ buffer′
-    (framed (s .address) (figuresOf s receive))
+    → Replied s (runOf s (thenAll after later)) count′ contact′ receive′ buffer′ (framed (s .address) (figuresOf s receive))
+
+-- ---- 5. "no gate is open while a sequence error stands": in the answer of every tick with a line
+abbrev pub GatesShutOnLine : Type 0
+GatesShutOnLine = (s : Settings) → Accepted s → (h : History Input) (count : ℤ) (contact : Bool) (receive buffer : List ℕ) →
+    let a = lineTickOf s (runOf s h) count contact receive buffer .answer in
+    (a .error ≡ error.None → ⊥) → a .gates ≡ shut
+
+-- ---- 6. a DC that is told 0 answers the book that the same tick without it would have left
+abbrev pub TicketOnLine : Type 0
+TicketOnLine = (s : Settings) (st : State) (count : ℤ) (contact : Bool) (receive buffer : List ℕ)
+    → commandOf receive (s .address) ≡ command.Do word.DayClose
+    → lineTickOf s st count contact receive buffer .told ≡ told.Done
+    → lineTickOf s st count contact receive buffer .answer .closed ≡ closed.Day (nextOf s st (unaskedOf count contact) .book)

@@ -10,6 +10,7 @@ use Rattle.types.specs.declared.machine.State.{State}
 use Rattle.types.specs.declared.machine.Input.{Input}
 use Rattle.outline.specs.Tick.{openState, nextOf, unaskedOf}
 use Rattle.outline.specs.Replies.{askedOf, dueText}
+use Rattle.outline.specs.Log.{isNone, receivedOf}
 
 -- what came, in the order of time: `h ▷ i` is h and then i
 infixl 40 _▷_
@@ -34,6 +35,11 @@ blockInputs (count ∷ counts) contact = unaskedOf count contact ∷ blockInputs
 unfoldable pub lineInput : Settings → State → ℤ → Bool → List ℕ → List ℕ → Input
 lineInput s st count contact receive buffer =
     cond (leb (length (dueText s st count contact receive)) (length buffer)) (askedOf s count contact receive) (unaskedOf count contact)
+
+-- the tick that a line of a log makes: that of its command, or one asked nothing where it has none
+unfoldable pub logInput : Settings → State → ℤ → Bool → List ℕ → List ℕ → Input
+logInput s st count contact request buffer =
+    cond (isNone request) (unaskedOf count contact) (lineInput s st count contact (receivedOf request) buffer)
 
 -- the same tick, asked nothing
 abbrev pub withoutRequest : Input → Input

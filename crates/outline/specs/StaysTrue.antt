@@ -2,7 +2,7 @@
 -- and `every_run` has them as its `ensures`. Histories stand in Run, Day, Zeroing and Ledger, ranges in Ranges.
 use Prim.Native.Nat.{ℕ, _+_, _≤_}
 use mathlib.Core.Path.{_≡_}
-use mathlib.Core.Bool.{Bool, true, false}
+use mathlib.Core.Bool.{Bool, true, false, _&&_}
 use mathlib.Core.List.{List, [], _∷_}
 use lib.ListN.{length, take, drop}
 use lib.IntN.{ℤ, natAbs, _+ℤ_, _-ℤ_}
@@ -16,6 +16,7 @@ use Rattle.types.specs.declared.machine.State.{State}
 use Rattle.types.specs.declared.machine.Input.{Input}
 use Rattle.types.specs.declared.lines.Command.the-variants as command
 use Rattle.types.specs.declared.lines.LineAnswer.the-variants as told
+use Rattle.types.specs.declared.lines.LineTick.{LineTick}
 use Rattle.types.specs.declared.lines.Word.the-variants as word
 use Rattle.outline.specs.Limits.{blockLimit, totalLimit, batchLimit}
 use Rattle.outline.specs.Stages.{shut}
@@ -23,9 +24,10 @@ use Rattle.outline.specs.Requests.{doneOf}
 use Rattle.outline.specs.Tick.{settledOf, servedOf, nextOf, tickOf, blockOf}
 use Rattle.outline.specs.Lines.{lineOf, prefixLength, commandOf}
 use Rattle.outline.specs.Replies.{framed, dueText, lineTickOf}
+use Rattle.outline.specs.Log.{requestTick}
 use Rattle.outline.specs.Owed.{Accepted}
 use Rattle.outline.specs.Kinds.{requestKind}
-use Rattle.outline.specs.Run.{History, _▷_, runOf, thenAll, blockInputs, lineInput, withoutRequest}
+use Rattle.outline.specs.Run.{History, _▷_, runOf, thenAll, blockInputs, lineInput, logInput, withoutRequest}
 use Rattle.outline.specs.Day.{tapeOf, bookHistory}
 use Rattle.outline.specs.Zeroing.{seenRun, zeroingOf, sumOf, AllWithin}
 use Rattle.outline.specs.Ledger.{eventRun, ledgerOf, sumN}
@@ -104,35 +106,48 @@ abbrev pub Refusals : Type 0
 Refusals = (s : Settings) (st : State) (i : Input) → doneOf (tickOf s st i .answer .outcome) ≡ false → AsUnasked s st i
 
 -- ---- 9. "Setpoints written on the line read back as the same figures"
-abbrev pub NoneSet : List Input → Type 0
-NoneSet [] = Unit {0}
-NoneSet (i ∷ is) = (requestKind (i .request) .writes ≡ false) × NoneSet is
+-- the tick writes setpoints: it is asked to, and accepts
+abbrev pub setsAt : Settings → State → Input → Bool
+setsAt s st i = requestKind (i .request) .writes && doneOf (tickOf s st i .answer .outcome)
+
+-- none of the ticks does, from a state on; writes that are refused may be among them
+abbrev pub NoneSet : Settings → State → List Input → Type 0
+NoneSet s st [] = Unit {0}
+NoneSet s st (i ∷ is) = (setsAt s st i ≡ false) × NoneSet s (nextOf s st i) is
 
 -- the 42 bytes after SS
 abbrev pub figuresOf : Settings → List ℕ → List ℕ
 figuresOf s receive = take 42 (drop (prefixLength (s .address) + 2) (lineOf receive))
 
--- an accepted SS, then any ticks that write no setpoints, then RS: its reply due is the figures of SS
+-- an accepted SS, then any ticks of which none writes setpoints, then RS: the reply due to it is the figures of SS, with prefix and CR LF
 abbrev pub ReadBack : Type 0
 ReadBack = (s : Settings) → Accepted s → (h : History Input) (count : ℤ) (contact : Bool) (receive buffer : List ℕ) (p : Setpoints)
     → commandOf receive (s .address) ≡ command.Set p
     → lineTickOf s (runOf s h) count contact receive buffer .told ≡ told.Done
-    → (later : List Input) → NoneSet later
+    → let after = h ▷ lineInput s (runOf s h) count contact receive buffer in
+    (later : List Input) → NoneSet s (runOf s after) later
     → (count′ : ℤ) (contact′ : Bool) (receive′ : List ℕ) → commandOf receive′ (s .address) ≡ command.Do word.ReadSetpoints
-    → dueText s (runOf s (thenAll (h ▷ lineInput s (runOf s h) count contact receive buffer) later)) count′ contact′ receive′
-    ≡ framed (s .address) (figuresOf s receive)
+    → dueText s (runOf s (thenAll after later)) count′ contact′ receive′ ≡ framed (s .address) (figuresOf s receive)
 
 -- ---- 10. what a day close answers is the book that the same tick without the close would have left
 abbrev pub Ticket : Type 0
 Ticket = (s : Settings) (st : State) (i : Input) → i .request ≡ request.DayClose → tickOf s st i .answer .outcome ≡ outcome.Done
     → tickOf s st i .answer .closed ≡ closed.Day (nextOf s st (withoutRequest i) .book)
 
--- ---- blocks and ticks with lines are runs
+-- ---- 11. blocks, ticks with lines and ticks of a log are runs
 abbrev pub BlocksAreRuns : Type 0
 BlocksAreRuns = (s : Settings) (h : History Input) (counts : List ℤ) (contact : Bool) → length counts ≤ blockLimit
     → blockOf s (runOf s h) counts contact .state ≡ runOf s (thenAll h (blockInputs counts contact))
 
+-- the run's tick of this input, in the state and in the answer, so that all that is said of either holds
+pub record IsTick (s : Settings) (h : History Input) (i : Input) (t : LineTick) : Type 0 where
+  pub state : t .state ≡ runOf s (h ▷ i)
+  pub answer : t .answer ≡ tickOf s (runOf s h) i .answer
+
 abbrev pub LinesAreRuns : Type 0
 LinesAreRuns = (s : Settings) (h : History Input) (count : ℤ) (contact : Bool) (receive buffer : List ℕ)
-    → lineTickOf s (runOf s h) count contact receive buffer .state
-    ≡ runOf s (h ▷ lineInput s (runOf s h) count contact receive buffer)
+    → IsTick s h (lineInput s (runOf s h) count contact receive buffer) (lineTickOf s (runOf s h) count contact receive buffer)
+
+abbrev pub LogsAreRuns : Type 0
+LogsAreRuns = (s : Settings) (h : History Input) (count : ℤ) (contact : Bool) (request buffer : List ℕ)
+    → IsTick s h (logInput s (runOf s h) count contact request buffer) (requestTick s (runOf s h) count contact request buffer)

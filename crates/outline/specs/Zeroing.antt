@@ -53,7 +53,7 @@ AllWithin n (x ∷ xs) = (natAbs (sumOf (x ∷ xs)) ≤ n) × AllWithin n xs
 abbrev pub inForce : Zeroing → ℤ
 inForce z = z .keyed +ℤ sumOf (z .moves)
 
--- a calm tick: not overloaded, in stage 00, gross fine at most w
+-- a good tick without a keyed zero is calm if it is not overloaded, its stage is 00, and gross fine is within ±w
 abbrev pub isCalm : Settings → Zeroing → Seen → ℤ → Bool
 isCalm s z t x =
     not (ltb (s .range .capacity + overloadMargin) (natAbs (divisionsOf (x -ℤ inForce z))))

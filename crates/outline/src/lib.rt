@@ -7,8 +7,8 @@ ghost use Rattle.outline.specs.Rules.{Weighed, Refused, Staged, Booked};
 ghost use Rattle.outline.specs.Finishes.{Finished};
 ghost use Rattle.outline.specs.Owed.{RawLaw, SetpointLaw, TimedLaw};
 ghost use Rattle.outline.specs.AnalogOwed.{ScaleLaw, AnalogLaws};
-ghost use Rattle.outline.specs.EveryLine.{ReplyBounded, BytesStay, AnsweredInOrder, RefusedLines, ReadBackOnLine};
-ghost use Rattle.outline.specs.StaysTrue.{Balance, SumsOfHistory, NothingElse, ZeroInForce, TotalOfBatches, GatesShut, InRange, Refusals, ReadBack, Ticket, BlocksAreRuns, LinesAreRuns};
+ghost use Rattle.outline.specs.EveryLine.{ReplyBounded, BytesStay, AnsweredInOrder, RefusedLines, ReadBackOnLine, GatesShutOnLine, TicketOnLine};
+ghost use Rattle.outline.specs.StaysTrue.{Balance, SumsOfHistory, NothingElse, ZeroInForce, TotalOfBatches, GatesShut, InRange, Refusals, ReadBack, Ticket, BlocksAreRuns, LinesAreRuns, LogsAreRuns};
 
 // The figures of the outline and the laws that the definitions owe. It does nothing: it stands here so that the check's list names
 // them, and misses them if a proof goes.
@@ -47,9 +47,10 @@ pub fn every_run()
     ensures ticket { λ r. ⌜ Ticket ⌝ }
     ensures blocks { λ r. ⌜ BlocksAreRuns ⌝ }
     ensures lines { λ r. ⌜ LinesAreRuns ⌝ }
+    ensures logs { λ r. ⌜ LogsAreRuns ⌝ }
 {}
 
-// What holds of every tick with a line, whatever the settings, the state and the two buffers. It does nothing, and stands here as
+// What holds of every tick with a line, for whatever settings and state or for every run. It does nothing, and stands here as
 // `paper_holds` does.
 pub fn every_line()
     ensures bounded { λ r. ⌜ ReplyBounded ⌝ }
@@ -57,4 +58,6 @@ pub fn every_line()
     ensures order { λ r. ⌜ AnsweredInOrder ⌝ }
     ensures refused { λ r. ⌜ RefusedLines ⌝ }
     ensures read_back { λ r. ⌜ ReadBackOnLine ⌝ }
+    ensures gates { λ r. ⌜ GatesShutOnLine ⌝ }
+    ensures ticket { λ r. ⌜ TicketOnLine ⌝ }
 {}

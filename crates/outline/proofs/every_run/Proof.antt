@@ -7,7 +7,7 @@ use Rattle.outline.proofs.RangeRun.{in-range}
 use Rattle.outline.proofs.RefusalLaw.{refusals}
 use Rattle.outline.proofs.ReadBack.{read-back}
 use Rattle.outline.proofs.TicketLaw.{ticket}
-use Rattle.outline.proofs.RunForms.{blocks-are-runs, lines-are-runs}
+use Rattle.outline.proofs.RunForms.{blocks-are-runs, lines-are-runs, logs-are-runs}
 use Rattle.outline.proofs.every_run.Statement.{statement}
 use Rattle.outline.proofs.every_run.Tie as tie
 
@@ -20,7 +20,7 @@ returns c = (
       nothing-else,
       (
         zero-in-force,
-        (total-of-batches, (gates-shut, (in-range, (refusals, (read-back, (ticket, (blocks-are-runs, lines-are-runs))))))),
+        (total-of-batches, (gates-shut, (in-range, (refusals, (read-back, (ticket, (blocks-are-runs, (lines-are-runs, logs-are-runs)))))))),
       ),
     ),
   ),
