@@ -1,10 +1,9 @@
 -- When a batch finishes: step 6 finishes one in exactly the ticks of which the ledger says so, and with the weight that it says.
 -- Assumes nothing.
-use mathlib.Core.Path.{_≡_, refl, ap, _∙_}
+use mathlib.Core.Path.{_≡_, refl, _∙_}
 use mathlib.Core.Bool.{Bool, true, false, cond, not, _&&_}
 use Prim.Native.Nat.{ℕ, suc}
 use lib.Dec.{ltb, eqb}
-use lib.IntN.{ℤ}
 use Rattle.types.specs.declared.settings.Mode.{Mode}
 use Rattle.types.specs.declared.settings.Mode.the-variants as mode
 use Rattle.types.specs.declared.settings.Batching.{Batching}
@@ -25,7 +24,7 @@ use Rattle.types.specs.declared.stages.Move.the-variants.{To, Fail, Finish}
 use Rattle.types.specs.declared.stages.Advanced.{Advanced}
 use Rattle.types.specs.declared.machine.State.{State}
 use Rattle.types.specs.declared.machine.Input.{Input}
-use Rattle.outline.specs.Stages.{comparedOf, factsOf, waitOf, timed, until, firstFlow, afterStart, moveOf, idleOf, flowingOf, lateOf, failedOf, landOf, advanceOf}
+use Rattle.outline.specs.Stages.{comparedOf, factsOf, waitOf, timed, until, firstFlow, afterStart, moveOf, idleOf, flowingOf, lateOf, landOf, advanceOf}
 use Rattle.outline.specs.Requests.{rulingOf, doneOf, grantedOf, decidedOf}
 use Rattle.outline.specs.Tick.{enteredOf, settledOf, servedOf}
 use Rattle.outline.specs.Numbers.{stageNumber}

@@ -7,11 +7,10 @@ use lib.ListN.{length}
 use lib.IntN.{ℤ}
 use borrow.Author.Tests.{le-leb}
 use Rattle.types.specs.declared.settings.Settings.{Settings}
-use Rattle.types.specs.declared.machine.State.{State}
 use Rattle.types.specs.declared.machine.Input.{Input}
 use Rattle.types.specs.declared.lines.LineTick.{LineTick}
 use Rattle.outline.specs.Limits.{blockLimit}
-use Rattle.outline.specs.Tick.{nextOf, tickOf, countIn, blockOf, unaskedOf}
+use Rattle.outline.specs.Tick.{tickOf, countIn, blockOf, unaskedOf}
 use Rattle.outline.specs.Replies.{askedOf, dueText, lineTickOf}
 use Rattle.outline.specs.Log.{isNone, receivedOf, requestTick}
 use Rattle.outline.specs.Run.{History, _▷_, runOf, thenAll, blockInputs, lineInput, logInput}

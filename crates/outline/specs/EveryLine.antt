@@ -80,7 +80,7 @@ pub record Answered (s : Settings) (st : State) (count : ℤ) (contact : Bool) (
   pub number : isAnswer (toldNumber (lineTickOf s st count contact receive buffer .told)) ≡ true
   -- no line, and a line over 64 bytes: 11, also in a buffer without a byte
   pub no-line : isLine (kindOf receive) ≡ false → lineTickOf s st count contact receive buffer .told ≡ told.Malformed
-  -- else a missing prefix: 12, likewise
+  -- else a prefix missing or of another address: 12, likewise
   pub other-address : isLine (kindOf receive) ≡ true → isPrefixed (lineOf receive) (s .address) ≡ false
       → lineTickOf s st count contact receive buffer .told ≡ told.OtherAddress
   -- 14 stands for every answer whose reply has no room; the two above have an empty reply, which always has
