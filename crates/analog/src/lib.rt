@@ -1,6 +1,8 @@
 // The analog value: f64, each operation rounded once, in the outline's order.
 ghost use mathlib.Core.Path.{_≡_};
 ghost use Rattle.outline.specs.Analog.{scaleOf, betweenOf, clipOf, analogOf};
+ghost use Rattle.outline.specs.Numbers.{analogNumber, analogValues};
+ghost use Rattle.outline.specs.Answers.{analogDue, analogValuesDue};
 ghost use Rattle.analog.specs.Fitted.{fitted};
 use types::analog::Analog;
 use types::analog::Board;
@@ -54,7 +56,9 @@ fn is_fitted(board: Board) -> bool
 
 // What the board is given; `fit` is a good tick without overload.
 pub fn analog_value(board: Board, scale: Scale, displayed: i32, fit: bool) -> Analog
-    ensures { λ r. ⌜ r ≡ analogOf board scale displayed fit ⌝ }
+    ensures value { λ r. ⌜ r ≡ analogOf board scale displayed fit ⌝ }
+    ensures number { λ r. ⌜ analogNumber r ≡ analogDue board fit ⌝ }
+    ensures values { λ r. ⌜ analogValues r ≡ analogValuesDue board scale displayed fit ⌝ }
 {
     if !fit {
         return Analog::None;

@@ -58,7 +58,7 @@ fn started(s: Settings, head: Head, bytes: &[u8], reply: &mut [u8]) -> Run {
     let first = [head.first];
     let points = head.points;
     let run = Run {
-        state: open_state(),
+        state: open_state(s),
         seen: unseen(),
         ticks: 0,
     };

@@ -3,6 +3,8 @@ ghost use mathlib.Core.Path.{_≡_};
 ghost use lib.ListN.{getD};
 ghost use denote.Ref.{ptr};
 ghost use Rattle.outline.specs.Lines.{isCrLf, lineEndOf, lineOf, kindOf};
+ghost use Rattle.outline.specs.Numbers.{kindNumber};
+ghost use Rattle.outline.specs.Answers.{kindDue};
 use types::lines::LineEnd;
 use types::lines::LineKind;
 
@@ -54,7 +56,8 @@ pub fn line_of(buf: &[u8]) -> &[u8]
 
 // What an empty part alone cannot tell: no line, a long line and an empty line.
 pub fn kind_of(buf: &[u8]) -> LineKind
-    ensures { λ r. ⌜ r ≡ kindOf (now (buf .entry)) ⌝ }
+    ensures kind { λ r. ⌜ r ≡ kindOf (now (buf .entry)) ⌝ }
+    ensures number { λ r. ⌜ kindNumber r ≡ kindDue (now (buf .entry)) ⌝ }
 {
     match line_end(buf) {
         LineEnd::At(n) => {

@@ -1,6 +1,8 @@
 // A block of counts, lent at once: the ticks one after another, with one contact and no requests.
 ghost use mathlib.Core.Path.{_≡_};
 ghost use Rattle.outline.specs.Tick.{blockOf};
+ghost use Rattle.outline.specs.Numbers.{blockNumber};
+ghost use Rattle.outline.specs.Answers.{blockDue};
 use types::machine::BlockAnswer;
 use types::machine::Blocked;
 use types::machine::State;
@@ -12,7 +14,8 @@ const BLOCK_LIMIT: usize = 4_096;
 // With no request step 4 leaves the state as it is, and step 3's weights serve to the end. The ticks stand in the loop itself: a call that
 // takes the state and gives it back would copy it whole.
 pub fn run_block(s: Settings, mut st: State, counts: &[i32], contact: bool) -> Blocked
-    ensures { λ r. ⌜ r ≡ blockOf s st (now (counts .entry)) contact ⌝ }
+    ensures blocked { λ r. ⌜ r ≡ blockOf s st (now (counts .entry)) contact ⌝ }
+    ensures number { λ r. ⌜ blockNumber (r .answer) ≡ blockDue (now (counts .entry)) ⌝ }
 {
     if BLOCK_LIMIT < counts.len() {
         return Blocked {

@@ -3,6 +3,8 @@
 // takes the state and gives it back would copy it whole.
 ghost use mathlib.Core.Path.{_≡_};
 ghost use Rattle.outline.specs.Tick.{tickOf};
+ghost use Rattle.outline.specs.Numbers.{outcomeNumber};
+ghost use Rattle.outline.specs.Answers.{tickDue};
 use crate::outputs::outputs;
 use types::daybook::Closed;
 use types::machine::Input;
@@ -20,7 +22,8 @@ pub mod unasked;
 
 // One tick, in the outline's order. A tick that asks nothing may be had cheaper: `unasked::unasked_tick`.
 pub fn tick(s: Settings, mut st: State, i: Input) -> Ticked
-    ensures { λ r. ⌜ r ≡ tickOf s st i ⌝ }
+    ensures ticked { λ r. ⌜ r ≡ tickOf s st i ⌝ }
+    ensures number { λ r. ⌜ outcomeNumber (r .answer .outcome) ≡ tickDue s st i ⌝ }
 {
     // 1. Count to raw.
     let raw = weight::raw::raw_of(s.calibration, i.count);

@@ -1,6 +1,7 @@
 // A tick that is asked nothing, as most are.
 ghost use mathlib.Core.Path.{_≡_};
 ghost use Rattle.outline.specs.Tick.{tickOf, unaskedOf};
+ghost use Rattle.outline.specs.Numbers.{outcomeNumber};
 use crate::outputs::outputs;
 use types::daybook::Closed;
 use types::machine::State;
@@ -10,7 +11,8 @@ use types::settings::Settings;
 
 // Step 4 leaves the state as it is, and step 3's weights serve to the end.
 pub fn unasked_tick(s: Settings, mut st: State, count: i32, contact: bool) -> Ticked
-    ensures { λ r. ⌜ r ≡ tickOf s st (unaskedOf count contact) ⌝ }
+    ensures ticked { λ r. ⌜ r ≡ tickOf s st (unaskedOf count contact) ⌝ }
+    ensures number { λ r. ⌜ outcomeNumber (r .answer .outcome) ≡ 0 ⌝ }
 {
     let raw = weight::raw::raw_of(s.calibration, count);
     st.stability = weight::stability::steadied(s.steadiness, st.stability, st.book.last, raw);

@@ -1,7 +1,10 @@
 -- tools
 pub mod Parts
 pub mod Opened
+-- laws that the proofs of the calls cite
+pub mod AnswerLaws
 -- what the definitions owe
+pub mod OpeningLaw
 pub mod RawLaw
 pub mod ScaleLaw
 pub mod SetpointLaw

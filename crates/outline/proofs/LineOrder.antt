@@ -92,14 +92,14 @@ module _ (receive : List ℕ) (address : ℕ) (line : isLine (kindOf receive) �
   unfolding spokenOf
   spoken-other e = rw spoken (rw e)
 
-  spoken-body : isPrefixed (lineOf receive) address ≡ true → commandOf receive address ≡ bodyOf (lineOf receive) (prefixLength address)
+  pub spoken-body : isPrefixed (lineOf receive) address ≡ true → commandOf receive address ≡ bodyOf (lineOf receive) (prefixLength address)
   unfolding spokenOf
   spoken-body e = rw spoken (rw e)
 
 -- ---- the statements
 module _ (s : Settings) (st : State) (count : ℤ) (contact : Bool) (receive buffer : List ℕ) where
   -- where the reply due fits, the answer is that of the command
-  told-fits : (c : Command) → commandOf receive (s .address) ≡ c → isFitting s st count contact receive buffer ≡ true
+  pub told-fits : (c : Command) → commandOf receive (s .address) ≡ c → isFitting s st count contact receive buffer ≡ true
       → lineTickOf s st count contact receive buffer .told ≡ toldOf c (settledOf s st (askedOf s count contact receive) .outcome)
   told-fits c ec e =
       rw (fits s st count contact receive buffer e)

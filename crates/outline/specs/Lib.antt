@@ -16,6 +16,7 @@ pub mod Lines
 pub mod Replies
 pub mod Texts
 pub mod Lengths
+pub mod Answers
 pub mod Log
 -- what is shown of them
 pub mod Figures

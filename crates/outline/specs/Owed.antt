@@ -4,6 +4,7 @@ use Prim.Native.Nat.{ℕ, zero, suc, _<_, _≤_, max}
 use mathlib.Core.Path.{_≡_}
 use mathlib.Core.Bool.{true, false, cond}
 use mathlib.Core.Logic.{_⊎_}
+use mathlib.Core.List.{[], _∷_}
 use lib.Dec.{ltb}
 use lib.IntN.{ℤ, natAbs}
 use Rattle.types.specs.declared.settings.Given.{Given}
@@ -18,12 +19,23 @@ use Rattle.types.specs.declared.stages.Timing.the-variants as timing
 use Rattle.outline.specs.Limits.{rawLimit, setpointLimit}
 use Rattle.outline.specs.Settings.{openOf}
 use Rattle.outline.specs.Weight.{goodCount, tenthsOf, rawOf}
+use Rattle.outline.specs.Tick.{openState, openedOf}
+use Rattle.outline.specs.Numbers.{openingNumber}
 use Rattle.outline.specs.Setpoints.{setpointsFit}
 use Rattle.outline.specs.Stages.{waitOf}
 
 -- settings that some opening accepted
 abbrev pub Accepted : Settings → Type 0
 Accepted s = (g : Given) × (openOf g ≡ opening.Accepted s)
+
+-- ---- "Any value outside its range gives answer 10 and no state.": a state is given exactly where the answer is 0, and it is the opening state
+pub record Opened (g : Given) : Type 0 where
+  pub refused : openingNumber (openOf g) ≡ 10 → openedOf (openOf g) ≡ []
+  pub accepted : openingNumber (openOf g) ≡ 0 → openedOf (openOf g) ≡ openState ∷ []
+  pub either : (openingNumber (openOf g) ≡ 10) ⊎ (openingNumber (openOf g) ≡ 0)
+
+abbrev pub OpeningLaw : Type 0
+OpeningLaw = (g : Given) → Opened g
 
 -- ---- |raw| is at most 4,000,000: the guard on raw is never met, so that a tick is bad for its count alone
 pub record RawOf (s : Settings) (count : ℤ) : Type 0 where

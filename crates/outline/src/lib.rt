@@ -5,7 +5,7 @@ ghost use Rattle.outline.specs.Worked.{Batches, Letters, Lines};
 ghost use Rattle.outline.specs.LogFigures.{Logs};
 ghost use Rattle.outline.specs.Rules.{Weighed, Refused, Staged, Booked};
 ghost use Rattle.outline.specs.Finishes.{Finished};
-ghost use Rattle.outline.specs.Owed.{RawLaw, SetpointLaw, TimedLaw};
+ghost use Rattle.outline.specs.Owed.{OpeningLaw, RawLaw, SetpointLaw, TimedLaw};
 ghost use Rattle.outline.specs.AnalogOwed.{ScaleLaw, AnalogLaws};
 ghost use Rattle.outline.specs.EveryLine.{ReplyBounded, BytesStay, AnsweredInOrder, RefusedLines, ReadBackOnLine, GatesShutOnLine, TicketOnLine};
 ghost use Rattle.outline.specs.StaysTrue.{Balance, SumsOfHistory, NothingElse, ZeroInForce, TotalOfBatches, GatesShut, InRange, Refusals, ReadBack, Ticket, BlocksAreRuns, LinesAreRuns, LogsAreRuns};
@@ -25,6 +25,7 @@ pub fn paper_holds()
     ensures staged { λ r. ⌜ Staged ⌝ }
     ensures booked { λ r. ⌜ Booked ⌝ }
     ensures finished { λ r. ⌜ Finished ⌝ }
+    ensures opening { λ r. ⌜ OpeningLaw ⌝ }
     ensures raw { λ r. ⌜ RawLaw ⌝ }
     ensures setpoints { λ r. ⌜ SetpointLaw ⌝ }
     ensures timed { λ r. ⌜ TimedLaw ⌝ }

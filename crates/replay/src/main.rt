@@ -45,7 +45,7 @@ fn put_end(out: &mut [u8], at: usize, line: Line) -> usize {
 fn run_ticks(s: Settings, first: Line, space: &mut [u8], reply: &mut [u8]) {
     let mut out = io::large_buffer();
     let mut at = put_opened(&mut out);
-    let mut state = open_state();
+    let mut state = open_state(s);
     let mut line = next_line(first, space);
     let mut turns = u64::MAX;
     while turns > 0 && line.said.read {

@@ -1,6 +1,8 @@
 // A tick with a line: the line in the receive buffer is the tick's request, and its reply goes into the caller's reply buffer.
 ghost use mathlib.Core.Path.{_≡_};
 ghost use Rattle.outline.specs.Tick.{tickOf, unaskedOf};
+ghost use Rattle.outline.specs.Numbers.{toldNumber};
+ghost use Rattle.outline.specs.Answers.{lineDue};
 ghost use Rattle.outline.specs.Replies.{lineTicked, lineTickOf, replyBuffer};
 use replies::Wrote;
 use replies::due::reply_due;
@@ -51,6 +53,7 @@ pub fn line_tick(
 ) -> LineTick
     ensures answer { λ r. ⌜ r ≡ lineTickOf s st count contact (now (receive .entry)) (now (reply .entry)) ⌝ }
     ensures bytes { λ r. ⌜ now (reply .exit) ≡ replyBuffer s st count contact (now (receive .entry)) (now (reply .entry)) ⌝ }
+    ensures number { λ r. ⌜ toldNumber (r .told) ≡ lineDue s st count contact (now (receive .entry)) (now (reply .entry)) ⌝ }
 {
     let command = commands::command_of(receive, s.address);
     let request = request_of(command);

@@ -102,7 +102,7 @@ fn print_end(line: Line) {
 fn read_log(s: Settings) {
     let mut space = io::large_buffer();
     let mut reply = [0u8; 64];
-    let mut state = open_state();
+    let mut state = open_state(s);
     let mut line = first_line(&mut space);
     let mut turns = u64::MAX;
     while turns > 0 && line.said.read {

@@ -28,19 +28,19 @@ enum-told-4 c = search needs
 
 returns : tie.Need-returns
 unfolding commandOf
-returns c = simp (sym (c .before .before .kind-of .ensures) ∙ c .enum-told .given .1)
+returns c = simp (sym (c .before .before .kind-of .ensures .0) ∙ c .enum-told .given .1)
 
 returns-2 : tie.Need-returns-2
 unfolding commandOf
-returns-2 c = simp (sym (c .before .before .kind-of .ensures) ∙ c .enum-told2 .given .1)
+returns-2 c = simp (sym (c .before .before .kind-of .ensures .0) ∙ c .enum-told2 .given .1)
 
 returns-3 : tie.Need-returns-3
 unfolding commandOf
-returns-3 c = simp (sym (c .before .before .kind-of .ensures) ∙ c .enum-told3 .given .1, c .before .before .before .spoken .ensures, c .before .before .before .before .line-of .ensures .0)
+returns-3 c = simp (sym (c .before .before .kind-of .ensures .0) ∙ c .enum-told3 .given .1, c .before .before .before .spoken .ensures, c .before .before .before .before .line-of .ensures .0)
 
 returns-4 : tie.Need-returns-4
 unfolding commandOf
-returns-4 c = simp (sym (c .before .before .kind-of .ensures) ∙ c .enum-told4 .given .1, c .before .before .before .spoken .ensures, c .before .before .before .before .line-of .ensures .0)
+returns-4 c = simp (sym (c .before .before .kind-of .ensures .0) ∙ c .enum-told4 .given .1, c .before .before .before .spoken .ensures, c .before .before .before .before .line-of .ensures .0)
 
 pub command-of-spec : {M : Type 1} → statement M
 command-of-spec =

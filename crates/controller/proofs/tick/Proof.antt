@@ -10,7 +10,10 @@ use Rattle.types.specs.declared.requests.Request.{Request}
 use Rattle.types.specs.declared.requests.Outcome.the-variants as outcome
 use Rattle.whole.specs.Bits.{got, be}
 use Rattle.whole.specs.Machine.{sfits-of}
+use Rattle.types.specs.declared.machine.Ticked.{Ticked}
 use Rattle.outline.specs.Requests.{grantedOf}
+use Rattle.outline.specs.Numbers.{outcomeNumber}
+use Rattle.outline.proofs.AnswerLaws.{tick-number}
 use Rattle.outline.specs.Tick.{nextOf, tickOf}
 use Rattle.outline.specs.Steps.{partsOf, step-idle, step-on, step-finished, leftOf, left-by, left-nothing, left-zero, left-tare, left-tare-clear, left-start, left-stop, left-set, left-total-clear, left-undo, left-gross, left-net, left-close, Asked, asked-held, asked-stepped, asked-tick}
 use Rattle.controller.proofs.tick.Statement.{statement}
@@ -224,7 +227,12 @@ stepped j =
     (j .if1 .came)
 
 returns : tie.Need-returns
-returns c = asked-tick (parts (c .before .before)) _ _ (stepped (c .before)) (c .outputs .ensures)
+returns c =
+    let a = start (c .before .before) .args in
+    let ticked = asked-tick (parts (c .before .before)) _ _ (stepped (c .before)) (c .outputs .ensures) in (
+      ticked,
+      ap (λ (t : Ticked). outcomeNumber (t .answer .outcome)) ticked ∙ tick-number (a .s) (a .st) (a .i),
+    )
 
 pub tick-spec : {M : Type 1} → statement M
 tick-spec =

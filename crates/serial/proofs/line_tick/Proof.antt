@@ -1,7 +1,19 @@
 -- What each part gives, handed to the law of the case that the writer's answer names.
+use mathlib.Core.Path.{_≡_, ap, _∙_}
+use mathlib.Core.Bool.{Bool}
+use mathlib.Core.List.{List}
+use Prim.Native.Nat.{ℕ}
+use lib.IntN.{ℤ}
 use mir.Facts.{toZ-ofZ}
 use denote.Ref.{now}
 use borrow.Author.Needs.{needs}
+use Rattle.types.specs.declared.settings.Settings.{Settings}
+use Rattle.types.specs.declared.machine.State.{State}
+use Rattle.types.specs.declared.lines.LineTick.{LineTick}
+use Rattle.outline.specs.Numbers.{toldNumber}
+use Rattle.outline.specs.Replies.{lineTickOf, replyBuffer}
+use Rattle.outline.specs.Answers.{lineDue}
+use Rattle.outline.proofs.AnswerLaws.{line-number}
 use Rattle.serial.proofs.Parts.{fitted, short}
 use Rattle.serial.proofs.line_tick.Statement.{statement}
 use Rattle.serial.proofs.line_tick.Tie as tie
@@ -33,6 +45,14 @@ with-line-requires c κs = search needs
 same-length : tie.Need-same-length
 same-length c = search needs
 
+-- the number that the line is told, beside its tick and its reply
+numbered : (s : Settings) (st : State) (count : ℤ) (contact : Bool) (receive buffer : List ℕ) (r : LineTick) (after : List ℕ)
+    → (r ≡ lineTickOf s st count contact receive buffer) × (after ≡ replyBuffer s st count contact receive buffer)
+    → (r ≡ lineTickOf s st count contact receive buffer)
+    × ((after ≡ replyBuffer s st count contact receive buffer) × (toldNumber (r .told) ≡ lineDue s st count contact receive buffer))
+numbered s st count contact receive buffer r after e =
+    (e .0, (e .1, ap (λ (t : LineTick). toldNumber (t .told)) (e .0) ∙ line-number s st count contact receive buffer))
+
 returns : tie.Need-returns
 returns c =
     let n = c .before .before .before in
@@ -42,10 +62,11 @@ returns c =
     let r = t .before in
     let start = r .before .before .before .before in
     let a = start .args in
-    let asked = simp (toZ-ofZ (start .fits .count)) at (t .tick .ensures) in
-    fitted (a .s) (a .st) (a .count) (a .contact) (now (a .receive)) (now (a .reply)) _ _ _ _ _ _ (r .before .command-of .ensures) (r .request-of .ensures) asked
+    let asked = simp (toZ-ofZ (start .fits .count)) at (t .tick .ensures .0) in
+    numbered (a .s) (a .st) (a .count) (a .contact) (now (a .receive)) (now (a .reply)) _ _
+    (fitted (a .s) (a .st) (a .count) (a .contact) (now (a .receive)) (now (a .reply)) _ _ _ _ _ _ (r .before .command-of .ensures) (r .request-of .ensures) asked
     (d .reply-due .ensures) (w .write-reply .ensures .0) (w .write-reply .ensures .1)
-    _ (n .length .given .1) _ (c .before .told-of .ensures) _ (c .with-line .ensures)
+    _ (n .length .given .1) _ (c .before .told-of .ensures) _ (c .with-line .ensures))
 
 enum-told : tie.Need-enum-told
 enum-told c = search needs
@@ -64,10 +85,11 @@ returns-2 c =
     let r = t .before in
     let start = r .before .before .before .before in
     let a = start .args in
-    let asked = simp (toZ-ofZ (start .fits .count)) at (t .tick .ensures) in
-    short (a .s) (a .st) (a .count) (a .contact) (now (a .receive)) (now (a .reply)) _ _ _ _ _ _ (r .before .command-of .ensures) (r .request-of .ensures) asked
+    let asked = simp (toZ-ofZ (start .fits .count)) at (t .tick .ensures .0) in
+    numbered (a .s) (a .st) (a .count) (a .contact) (now (a .receive)) (now (a .reply)) _ _
+    (short (a .s) (a .st) (a .count) (a .contact) (now (a .receive)) (now (a .reply)) _ _ _ _ _ _ (r .before .command-of .ensures) (r .request-of .ensures) asked
     (d .reply-due .ensures) (w .write-reply .ensures .0) (w .write-reply .ensures .1)
-    (c .before .enum-told .given .1) _ (simp (toZ-ofZ (start .fits .count)) at (c .silent-tick .ensures))
+    (c .before .enum-told .given .1) _ (simp (toZ-ofZ (start .fits .count)) at (c .silent-tick .ensures)))
 
 pub line-tick-spec : {M : Type 1} → statement M
 line-tick-spec =

@@ -11,7 +11,7 @@ with-line-requires : tie.Need-with-line-requires
 with-line-requires c κs = search needs
 
 returns : tie.Need-returns
-returns c = simp (c .with-line .ensures, c .before .unasked-tick .ensures, toZ-ofZ (c .before .before .fits .count))
+returns c = simp (c .with-line .ensures, c .before .unasked-tick .ensures .0, toZ-ofZ (c .before .before .fits .count))
 
 pub silent-tick-spec : {M : Type 1} → statement M
 silent-tick-spec = tie.close (tie.spec unasked-tick-requires with-line-requires returns)

@@ -1,8 +1,15 @@
 -- The kind is read off the end that the search gave.
-use mathlib.Core.Path.{sym, _∙_}
+use mathlib.Core.Path.{_≡_, sym, ap, _∙_}
+use mathlib.Core.List.{List}
+use Prim.Native.Nat.{ℕ}
+use denote.Ref.{now}
 use borrow.Author.Needs.{needs}
 use borrow.Author.Tests.{eq-eqb, ne-eqb}
+use Rattle.types.specs.declared.lines.LineKind.{LineKind}
 use Rattle.outline.specs.Lines.{kindOf}
+use Rattle.outline.specs.Numbers.{kindNumber}
+use Rattle.outline.specs.Answers.{kindDue}
+use Rattle.outline.proofs.AnswerLaws.{kind-number}
 use Rattle.commands.proofs.line.kind_of.Statement.{statement}
 use Rattle.commands.proofs.line.kind_of.Tie as tie
 
@@ -18,21 +25,25 @@ enum-told c = search needs
 enum-told-2 : tie.Need-enum-told-2
 enum-told-2 c = search needs
 
+-- the kind's number beside the kind
+numbered : (b : List ℕ) (r : LineKind) → r ≡ kindOf b → (r ≡ kindOf b) × (kindNumber r ≡ kindDue b)
+numbered b r e = (e, ap kindNumber e ∙ kind-number b)
+
 returns : tie.Need-returns
 unfolding kindOf
-returns c = simp (sym (c .before .before .before .before .line-end .ensures) ∙ c .before .before .n .given .1, eq-eqb _ _ (c .if1 .taken))
+returns c = numbered (now (c .before .before .before .before .before .before .args .buf)) _ (simp (sym (c .before .before .before .before .line-end .ensures) ∙ c .before .before .n .given .1, eq-eqb _ _ (c .if1 .taken)))
 
 returns-2 : tie.Need-returns-2
 unfolding kindOf
-returns-2 c = simp (sym (c .before .before .before .before .line-end .ensures) ∙ c .before .before .n .given .1, ne-eqb _ _ (c .if1 .left))
+returns-2 c = numbered (now (c .before .before .before .before .before .before .args .buf)) _ (simp (sym (c .before .before .before .before .line-end .ensures) ∙ c .before .before .n .given .1, ne-eqb _ _ (c .if1 .left)))
 
 returns-3 : tie.Need-returns-3
 unfolding kindOf
-returns-3 c = simp (sym (c .before .before .line-end .ensures) ∙ c .enum-told .given .1)
+returns-3 c = numbered (now (c .before .before .before .before .args .buf)) _ (simp (sym (c .before .before .line-end .ensures) ∙ c .enum-told .given .1))
 
 returns-4 : tie.Need-returns-4
 unfolding kindOf
-returns-4 c = simp (sym (c .before .before .line-end .ensures) ∙ c .enum-told2 .given .1)
+returns-4 c = numbered (now (c .before .before .before .before .args .buf)) _ (simp (sym (c .before .before .line-end .ensures) ∙ c .enum-told2 .given .1))
 
 pub kind-of-spec : {M : Type 1} → statement M
 kind-of-spec =

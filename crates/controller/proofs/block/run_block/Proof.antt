@@ -2,6 +2,7 @@
 -- meet, each is a case of its definition. The measure is what is left of the counts.
 use mathlib.Core.Path.{_≡_, refl, sym, ap, _∙_}
 use mathlib.Core.Logic.{⊎-elim}
+use mathlib.Core.Bool.{Bool}
 use mathlib.Core.List.{List, foldl, foldl-append}
 use Prim.Native.Nat.{ℕ, _+_, _-_, _<_, _≤_}
 use native.Mathlib.Numerals.{add-one}
@@ -15,11 +16,16 @@ use denote.Ref.{now}
 use mir.Syntax.{w32, w64}
 use mir.Val.{SFits}
 use mir.Facts.{toZ-ofZ}
+use Rattle.types.specs.declared.settings.Settings.{Settings}
 use Rattle.types.specs.declared.machine.State.{State}
+use Rattle.types.specs.declared.machine.Blocked.{Blocked}
 use Rattle.whole.specs.Bits.{got, be}
 use Rattle.whole.specs.Machine.{sfits-of}
 use Rattle.outline.specs.Limits.{blockLimit}
 use Rattle.outline.specs.Tick.{steppedOf, countIn, blockOf}
+use Rattle.outline.specs.Numbers.{blockNumber}
+use Rattle.outline.specs.Answers.{blockDue}
+use Rattle.outline.proofs.AnswerLaws.{block-number}
 use Rattle.outline.specs.Steps.{partsOf, Parts, parts-next, step-idle, step-on, step-finished, step-setpoints}
 use Rattle.controller.proofs.block.run_block.Statement.{statement}
 use Rattle.controller.proofs.block.run_block.Tie as tie
@@ -35,9 +41,16 @@ Inv-loop s st₀ counts contact points batching mode i₀ st i =
 abbrev μ-loop : tie.MeasureT-loop
 μ-loop s st₀ counts contact points batching mode i₀ st i = length counts - i
 
+-- the block's number beside the block
+numbered : (s : Settings) (st : State) (counts : List ℤ) (contact : Bool) (r : Blocked) → r ≡ blockOf s st counts contact
+    → (r ≡ blockOf s st counts contact) × (blockNumber (r .answer) ≡ blockDue counts)
+numbered s st counts contact r e = (e, ap (λ (b : Blocked). blockNumber (b .answer)) e ∙ block-number s st counts contact)
+
 returns : tie.Need-returns Inv-loop μ-loop
 unfolding blockOf
-returns c = simp (lt-leb (length (now (c .before .args .counts))) blockLimit (omega arith))
+returns c =
+    let a = c .before .args in
+    numbered (a .s) (a .st) (now (a .counts)) (a .contact) _ (simp (lt-leb (length (now (a .counts))) blockLimit (omega arith)))
 
 loop-holds : tie.Need-loop-holds Inv-loop μ-loop
 loop-holds c = (omega arith, refl, refl)
@@ -170,9 +183,11 @@ returns-2 : tie.Need-returns-2 Inv-loop μ-loop
 unfolding blockOf
 returns-2 c =
     let l = c .before in
-    let counts = now (l .before .before .before .before .args .counts) in
+    let a = l .before .before .before .before .args in
+    let counts = now (a .counts) in
     let full : length counts ≤ l .loop .i = omega arith in
-    simp (le-leb (length counts) blockLimit (l .before .before .before .if1 .left), l .loop .inv .1, take-all (l .loop .i) counts full)
+    numbered (a .s) (a .st) counts (a .contact) _
+    (simp (le-leb (length counts) blockLimit (l .before .before .before .if1 .left), l .loop .inv .1, take-all (l .loop .i) counts full))
 
 pub run-block-spec : {M : Type 1} → statement M
 run-block-spec =

@@ -45,7 +45,7 @@ returns c =
       error = a .st .sequence .error;
       near = c .before .before .is-near .ensures i;
       full = c .before .is-full .ensures i;
-      analog = (c .analog-value .ensures ∙ (λ j. analogOf (a .s .board) (a .s .scale) (shown j) (f .is-fit .ensures j))) i;
+      analog = (c .analog-value .ensures .0 ∙ (λ j. analogOf (a .s .board) (a .s .scale) (shown j) (f .is-fit .ensures j))) i;
       closed = a .closed;
     }
 

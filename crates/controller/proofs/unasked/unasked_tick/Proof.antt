@@ -1,14 +1,17 @@
 -- The parts of steps 1 to 5 are told call by call; where the ways of step 6 meet, each is a case of its definition.
 use borrow.Author.Needs.{needs}
 use borrow.Author.Tests.{not-false}
-use mathlib.Core.Path.{_≡_, refl, sym, _∙_}
+use mathlib.Core.Path.{_≡_, refl, sym, ap, _∙_}
 use mathlib.Core.Logic.{⊎-elim}
 use mir.Syntax.{w32, w64}
 use mir.Val.{SFits}
 use mir.Facts.{toZ-ofZ}
 use Rattle.whole.specs.Bits.{got, be}
 use Rattle.whole.specs.Machine.{sfits-of}
+use Rattle.types.specs.declared.machine.Ticked.{Ticked}
 use Rattle.outline.specs.Tick.{steppedOf}
+use Rattle.outline.specs.Numbers.{outcomeNumber}
+use Rattle.outline.proofs.AnswerLaws.{unasked-number}
 use Rattle.outline.specs.Steps.{partsOf, Parts, parts-tick, step-idle, step-on, step-finished}
 use Rattle.controller.proofs.unasked.unasked_tick.Statement.{statement}
 use Rattle.controller.proofs.unasked.unasked_tick.Tie as tie
@@ -93,7 +96,12 @@ stepped j =
     (j .if1 .came)
 
 returns : tie.Need-returns
-returns c = parts-tick (parts (c .before .before)) _ _ (stepped (c .before)) (c .outputs .ensures)
+returns c =
+    let a = c .before .before .before .before .before .before .before .before .before .before .args in
+    let ticked = parts-tick (parts (c .before .before)) _ _ (stepped (c .before)) (c .outputs .ensures) in (
+      ticked,
+      ap (λ (t : Ticked). outcomeNumber (t .answer .outcome)) ticked ∙ unasked-number (a .s) (a .st) (a .count) (a .contact),
+    )
 
 pub unasked-tick-spec : {M : Type 1} → statement M
 unasked-tick-spec =

@@ -65,7 +65,7 @@ returns-2 c =
     let t = c .before .before .line-tick in
     let q = toZ-ofZ (g .before .before .before .fits .count) in
     let n = sym (g .is-none .ensures) ∙ p .before .before .before .if1 .left in
-    (command (a .s) (a .st) (a .contact) (now (a .request)) (now (a .reply)) q n (held p) (t .ensures .0), command-bytes (a .s) (a .st) (a .contact) (now (a .request)) (now (a .reply)) q n (held p) (t .ensures .1))
+    (command (a .s) (a .st) (a .contact) (now (a .request)) (now (a .reply)) q n (held p) (t .ensures .0), command-bytes (a .s) (a .st) (a .contact) (now (a .request)) (now (a .reply)) q n (held p) (t .ensures .1 .0))
 
 pub request-tick-spec : {M : Type 1} → statement M
 request-tick-spec =
