@@ -84,9 +84,8 @@ pub fn tick(s: Settings, mut st: State, i: Input) -> Ticked
         }
         Request::DayClose => {
             let day = st.book;
-            let next = daybook::closed_book(day);
             closed = Closed::Day(day);
-            st.book = next;
+            st.book = daybook::closed_book(day);
         }
     }
     // The weights again, with the zero and the tare that the request leaves.
@@ -101,14 +100,7 @@ pub fn tick(s: Settings, mut st: State, i: Input) -> Ticked
         if !idle {
             let v = batch::comparison::compared(mode, served);
             let fit = weight::is_fit(served);
-            let a = batch::advance(
-                s.batching,
-                st.setpoints,
-                st.sequence,
-                !fit,
-                served.stable,
-                v,
-            );
+            let a = batch::advance(batching, st.setpoints, st.sequence, !fit, served.stable, v);
             if a.finished {
                 st.sequence = totals::booked_sequence(st.totals, v, a.sequence);
                 st.totals = totals::booked_totals(st.totals, v);
