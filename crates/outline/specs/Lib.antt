@@ -21,6 +21,7 @@ pub mod Log
 -- what is shown of them
 pub mod Figures
 pub mod Worked
+pub mod Ticket
 pub mod LogFigures
 pub mod Rules
 pub mod Finishes

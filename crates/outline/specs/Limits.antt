@@ -82,6 +82,10 @@ numberDigits = 9
 abbrev pub requestLimit : ℕ
 requestLimit = 100
 
+-- the digits of a number that is printed: no number of 64 bits has more
+abbrev pub decimalDigits : ℕ
+decimalDigits = 20
+
 -- ---- guards: limits that the types need and that no run from an accepted opening meets
 -- a raw beyond it makes a bad tick
 abbrev pub rawLimit : ℕ
@@ -94,3 +98,7 @@ bookLimit = 69120000000000
 -- gross and net stop at it: what an i32 holds
 abbrev pub displayLimit : ℕ
 displayLimit = 2147483647
+
+-- the number of a log's line stops at it: what a u64 holds
+abbrev pub lineNumberLimit : ℕ
+lineNumberLimit = 18446744073709551615

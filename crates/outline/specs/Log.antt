@@ -4,7 +4,7 @@ use Prim.Native.Nat.{ℕ, suc, _+_, _-_, _*_}
 use mathlib.Core.List.{List, [], _∷_, _++_}
 use mathlib.Core.Bool.{Bool, true, false, cond, _&&_, _||_}
 use lib.ListN.{length, getD, take, drop}
-use lib.Dec.{leb, eqb}
+use lib.Dec.{leb, ltb, eqb}
 use lib.IntN.{ℤ, pos, negℤ}
 use Rattle.types.specs.declared.settings.Settings.{Settings}
 use Rattle.types.specs.declared.machine.State.{State}
@@ -13,7 +13,8 @@ use Rattle.types.specs.declared.lines.LineAnswer.the-variants as told
 use Rattle.types.specs.declared.log.LogNumber.{LogNumber}
 use Rattle.types.specs.declared.log.LogNumber.the-variants as number
 use Rattle.types.specs.declared.log.LogLine.{LogLine}
-use Rattle.outline.specs.Limits.{numberDigits, requestLimit}
+use Rattle.types.specs.declared.log.Line.{Line}
+use Rattle.outline.specs.Limits.{numberDigits, requestLimit, lineNumberLimit}
 use Rattle.outline.specs.Lines.{isDigit}
 use Rattle.outline.specs.Tick.{tickOf, unaskedOf}
 use Rattle.outline.specs.Replies.{lineTicked, lineTickOf, replyBuffer}
@@ -74,6 +75,59 @@ behindCount line number.Unreadable = unreadable
 unfoldable pub logLineOf : List ℕ → LogLine
 logLineOf line = behindCount line (numberAt line 0)
 
+-- ---- the lines of an input, of which a buffer holds a piece: the first `all` of its bytes
+-- the bytes from a place to an end, as far as there are any
+abbrev pub between : List ℕ → ℕ → ℕ → List ℕ
+between bytes from end = take (end - from) (drop from bytes)
+
+-- the next LF, where n bytes stand before the list; without one, the list's end
+abbrev pub lfFrom : ℕ → List ℕ → ℕ
+lfFrom n [] = n
+lfFrom n (x ∷ s) = cond (eqb x 10) n (lfFrom (suc n) s)
+
+-- the next LF from a place on, where the line that begins there ends
+unfoldable pub nextLf : List ℕ → ℕ → ℕ
+nextLf bytes from = lfFrom from (drop from bytes)
+
+-- the line that begins at a place: "Lines end in LF; a last one without it counts." It is there if a byte of it, or its LF, is held, and
+-- whole if its LF is
+unfoldable pub lineAt : List ℕ → ℕ → ℕ → ℕ → Line
+lineAt space from all number =
+    let held = take all space in
+    let end = nextLf held from in record {
+      from = from;
+      end = end;
+      all = all;
+      number = number;
+      here = ltb from (length held);
+      whole = ltb end (length held);
+      said = logLineOf (between space from end);
+    }
+
+-- "Lines are numbered from 1": the first is `lineAt space 0 all 1`, and each has one more than the line before it
+abbrev pub numberBehind : ℕ → ℕ
+numberBehind n = cond (ltb n lineNumberLimit) (suc n) n
+
+-- behind the line's LF, or where the bytes held end
+abbrev pub placeBehind : Line → ℕ
+placeBehind line = cond (ltb (line .end) (line .all)) (suc (line .end)) (line .all)
+
+-- the line that follows another
+unfoldable pub lineBehind : List ℕ → Line → Line
+lineBehind space line = lineAt space (placeBehind line) (line .all) (numberBehind (line .number))
+
+-- the same where the input is read on for a line that is not whole: it stands at the start of the buffer as it is after that, of which
+-- `all` bytes are then held
+unfoldable pub nextLine : List ℕ → List ℕ → ℕ → Line → Line
+nextLine space after all line =
+    let next = lineBehind space line in
+    cond (next .whole) next (lineAt after 0 all (next .number))
+
+-- the bytes held from a place on, brought to the start of the buffer; those that they do not cover stay
+unfoldable pub keptIn : List ℕ → ℕ → ℕ → List ℕ
+keptIn space from all = between space from all ++ drop (length (between space from all)) space
+
+-- ---- its request
 -- "`--` for none"
 unfoldable pub isNone : List ℕ → Bool
 isNone request = eqb (length request) 2 && eqb (getD request 0 0) 45 && eqb (getD request 1 0) 45

@@ -2,7 +2,7 @@
 // Nothing here does a tick's work; the crates above do, and promise that they do what the definitions say.
 ghost use Rattle.outline.specs.Figures.{Starred, Runs, Table};
 ghost use Rattle.outline.specs.Worked.{Batches, Letters, Lines};
-ghost use Rattle.outline.specs.LogFigures.{Logs};
+ghost use Rattle.outline.specs.LogFigures.{Logs, Inputs, Tickets};
 ghost use Rattle.outline.specs.Rules.{Weighed, Refused, Staged, Booked};
 ghost use Rattle.outline.specs.Finishes.{Finished};
 ghost use Rattle.outline.specs.Owed.{OpeningLaw, RawLaw, SetpointLaw, TimedLaw};
@@ -20,6 +20,8 @@ pub fn paper_holds()
     ensures letters { λ r. ⌜ Letters ⌝ }
     ensures lines { λ r. ⌜ Lines ⌝ }
     ensures logs { λ r. ⌜ Logs ⌝ }
+    ensures inputs { λ r. ⌜ Inputs ⌝ }
+    ensures tickets { λ r. ⌜ Tickets ⌝ }
     ensures weighed { λ r. ⌜ Weighed ⌝ }
     ensures refused { λ r. ⌜ Refused ⌝ }
     ensures staged { λ r. ⌜ Staged ⌝ }

@@ -13,3 +13,19 @@ pub struct LogLine {
     pub contact: bool,
     pub request: usize,
 }
+
+// A line of an input of which a buffer holds a piece: its place there, and what it says.
+pub struct Line {
+    // the line's bytes, without its LF
+    pub from: usize,
+    pub end: usize,
+    // the bytes held, up to the last that was read
+    pub all: usize,
+    // the first line is 1
+    pub number: u64,
+    // there is such a line; else the bytes held have ended
+    pub here: bool,
+    // its LF is held too
+    pub whole: bool,
+    pub said: LogLine,
+}
