@@ -1,4 +1,4 @@
--- Runs of stores: one run behind another, and a run that begins with its last byte. Assumes nothing.
+-- Runs of stores: two side by side, and a run that begins with its last byte. Assumes nothing.
 use Prim.Native.Nat.{ℕ, suc, _+_, _-_, _/_, _%_, _≤_, _<_}
 use native.Mathlib.Nat.{add-zero, add-suc, suc-add}
 use native.Mathlib.Numerals.{add-one}
@@ -11,24 +11,8 @@ use lib.Seq.{sets, set-comm}
 use Rattle.outline.specs.Lines.{unitsDigit}
 use Rattle.outline.specs.Replies.{digitsOf, lettersText}
 use Rattle.replies.specs.Put.{Put}
+use Rattle.replies.specs.Writers.{same}
 use Rattle.outline.specs.Lengths.{length-digits}
-
--- ---- writers in a chain
-sets-append : (l : List ℕ) (i : ℕ) (xs ys : List ℕ) → sets (sets l i xs) (i + length xs) ys ≡ sets l i (xs ++ ys)
-sets-append l i [] ys = rw add-zero
-sets-append l i (x ∷ xs) ys = rw (add-suc, ← suc-add) (sets-append (set l i x) (suc i) xs ys)
-
--- a second writer that starts where the first stopped
-pub more : {d xs l ys m : List ℕ} {at n w k v : ℕ} → Put d at xs l n w → Put l n ys m k v → Put d at (xs ++ ys) m k (w + v)
-more {d} {xs} {ys = ys} {at = at} p q = record {
-  stored = q .stored ∙ rw (p .stored, p .behind, ← p .long) (sets-append d at xs ys);
-  behind = omega arith;
-  long = rw length-append (omega arith);
-}
-
--- the text by what it is equal to
-pub same : {d xs ys l : List ℕ} {at n w : ℕ} → xs ≡ ys → Put d at xs l n w → Put d at ys l n w
-same e p = record { stored = rw (← e) (p .stored); behind = p .behind; long = rw (← e) (p .long) }
 
 -- two stores side by side
 pub pair : (l : List ℕ) (at a b : ℕ) → set (set l at a) (at + 1) b ≡ sets l at (a ∷ b ∷ [])

@@ -1,18 +1,16 @@
--- A whole reply at the buffer's start: its prefix, what it leaves, what is answered. Assumes nothing.
-use Prim.Native.Nat.{ℕ, _+_, _≤_, _<_}
-use native.Mathlib.Nat.{zero-add}
+-- A whole reply at the buffer's start: its prefix, its text, what is answered. Assumes nothing.
+use Prim.Native.Nat.{ℕ, _≤_, _<_}
 use native.Mathlib.Omega.{arith}
 use mathlib.Core.Path.{_≡_, refl, ap, _∙_}
 use mathlib.Core.Bool.{cond}
-use mathlib.Core.List.{List, [], _∷_, _++_}
+use mathlib.Core.List.{List, [], _∷_}
 use lib.Dec.{eqb, leb·zero}
-use lib.ListN.{length, drop}
-use lib.Seq.{sets, sets-eq}
+use lib.ListN.{length}
 use borrow.Author.Tests.{le-leb, lt-leb, le-ltb, lt-ltb, eq-eqb, ne-eqb}
 use Rattle.types.specs.declared.lines.Reply.{Reply}
 use Rattle.types.specs.declared.lines.Reply.the-variants.{Silent, Letters, Weight, Total, Points, Refused}
 use Rattle.outline.specs.Lines.{prefixLength, tensDigit, unitsDigit}
-use Rattle.outline.specs.Replies.{prefixText, framed, replyText, writtenOf}
+use Rattle.outline.specs.Replies.{prefixText, framed, replyText}
 use Rattle.replies.specs.declared.Wrote.the-variants.{Bytes, Short}
 use Rattle.replies.specs.Wrote.{wroteOf}
 use Rattle.replies.specs.Put.{Put}
@@ -31,32 +29,17 @@ pub prefix-some : {d l : List ℕ} {n a : ℕ} → 0 < a → Put d 0 (64 ∷ ten
 unfolding prefixLength
 prefix-some h p = simp (lt-ltb _ _ h) p
 
--- ---- what stands in the buffer, and what is answered
-at-start : (l xs : List ℕ) → length xs ≤ length l → sets l 0 xs ≡ xs ++ drop (length xs) l
-at-start l xs h = sets-eq xs l 0 (rw zero-add h) ∙ rw zero-add
+-- ---- what is answered
+pub fitted-answer : {d xs l : List ℕ} {n w : ℕ} → Put d 0 xs l n w → w ≤ length d → Bytes n ≡ wroteOf xs d
+unfolding wroteOf
+fitted-answer {d} {xs} {n = n} p h =
+    let room : length xs ≤ length d = omega arith in
+    let e : n ≡ length xs = omega arith in
+    simp (le-leb _ _ room) (ap Bytes e)
 
-module _ {d xs l : List ℕ} {n w : ℕ} (p : Put d 0 xs l n w) (h : w ≤ length d) where
-  pub fitted-answer : Bytes n ≡ wroteOf xs d
-  unfolding wroteOf
-  fitted-answer =
-      let room : length xs ≤ length d = omega arith in
-      let e : n ≡ length xs = omega arith in
-      simp (le-leb _ _ room) (ap Bytes e)
-
-  pub fitted-bytes : l ≡ writtenOf xs d
-  unfolding writtenOf
-  fitted-bytes =
-      let room : length xs ≤ length d = omega arith in
-      simp (le-leb _ _ room) (p .stored ∙ at-start d xs room)
-
-module _ (xs d : List ℕ) (h : length d < length xs) where
-  pub short-answer : Short ≡ wroteOf xs d
-  unfolding wroteOf
-  short-answer = simp (lt-leb _ _ h)
-
-  pub short-bytes : d ≡ writtenOf xs d
-  unfolding writtenOf
-  short-bytes = simp (lt-leb _ _ h)
+pub short-answer : (xs d : List ℕ) → length d < length xs → Short ≡ wroteOf xs d
+unfolding wroteOf
+short-answer xs d h = simp (lt-leb _ _ h)
 
 -- ---- a reply by whether it has a text
 by-text : (a : ℕ) (r : Reply) → replyText a r ≡ cond (eqb (textLength r) 0) [] (framed a (textOf r))
@@ -77,7 +60,3 @@ some-text a r e = by-text a r ∙ simp (ne-eqb _ _ e)
 pub silent-answer : (d : List ℕ) → Bytes 0 ≡ wroteOf [] d
 unfolding wroteOf
 silent-answer d = simp leb·zero
-
-pub silent-bytes : (d : List ℕ) → d ≡ writtenOf [] d
-unfolding writtenOf
-silent-bytes d = simp leb·zero

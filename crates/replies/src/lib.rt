@@ -15,7 +15,7 @@ use commands::prefix::prefix_length;
 use types::lines::Reply;
 
 pub mod due;
-mod put;
+pub mod put;
 mod shown;
 mod text;
 

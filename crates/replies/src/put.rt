@@ -1,10 +1,11 @@
-// The smallest writers: each puts its bytes into a place of the lent buffer, for which the caller has seen to the room, and answers the
-// place behind them.
+// The smallest writers: each puts its bytes into a place of the lent buffer and answers the place behind them. But for the public one, the
+// caller has seen to the room.
+ghost use mathlib.Core.Path.{_≡_};
 ghost use mathlib.Core.List.{_∷_, []};
 ghost use Prim.Native.Nat.{_+_, _≤_};
 ghost use lib.ListN.{length, replicate};
 ghost use Rattle.outline.specs.Replies.{digitsOf, lettersText};
-ghost use Rattle.replies.specs.Put.{Put};
+ghost use Rattle.replies.specs.Put.{Put, putIn, placeIn};
 
 pub(crate) const DIGIT_ZERO: u8 = 48;
 
@@ -23,6 +24,20 @@ pub(crate) fn put_digits(buffer: &mut [u8], at: usize, width: usize, value: u64)
         v = v / 10;
     }
     at + width
+}
+
+// The same at any place of any buffer: where the digits do not fit, none is put, and the place is answered as it was given.
+pub fn digits_at(buffer: &mut [u8], at: usize, width: usize, value: u64) -> usize
+    ensures place { λ r. ⌜ r ≡ placeIn (now (buffer .entry)) at (digitsOf width value) ⌝ }
+    ensures bytes { λ r. ⌜ now (buffer .exit) ≡ putIn (now (buffer .entry)) at (digitsOf width value) ⌝ }
+{
+    if buffer.len() < width {
+        return at;
+    }
+    if buffer.len() - width < at {
+        return at;
+    }
+    put_digits(buffer, at, width, value)
 }
 
 pub(crate) fn put_spaces(buffer: &mut [u8], at: usize, width: usize) -> usize

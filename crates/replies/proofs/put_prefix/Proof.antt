@@ -1,6 +1,6 @@
 -- The prefix is there where the address is above 0: one byte, then two behind it.
 use native.Mathlib.Omega.{arith}
-use Rattle.replies.proofs.Stores.{more}
+use Rattle.replies.specs.Writers.{more}
 use Rattle.replies.proofs.Whole.{prefix-none, prefix-some, prefix-three}
 use borrow.Author.Needs.{needs}
 use Rattle.replies.proofs.put_prefix.Statement.{statement}

@@ -7,8 +7,8 @@ use denote.Ref.{now}
 use Rattle.outline.specs.Replies.{framed}
 use Rattle.outline.specs.Texts.{textOf}
 use Rattle.outline.specs.Lengths.{prefix-short, text-short, length-framed}
-use Rattle.replies.proofs.Stores.{more}
-use Rattle.replies.proofs.Whole.{no-text, some-text, silent-answer, silent-bytes, short-answer, short-bytes, fitted-answer, fitted-bytes}
+use Rattle.replies.specs.Writers.{more, fitted-bytes, short-bytes, silent-bytes}
+use Rattle.replies.proofs.Whole.{no-text, some-text, silent-answer, short-answer, fitted-answer}
 use borrow.Author.Needs.{needs}
 use Rattle.replies.proofs.write_reply.Statement.{statement}
 use Rattle.replies.proofs.write_reply.Tie as tie

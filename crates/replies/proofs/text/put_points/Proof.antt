@@ -1,6 +1,6 @@
 -- Seven fields, each behind the other.
 use Rattle.outline.specs.Replies.{pointsText}
-use Rattle.replies.proofs.Stores.{more}
+use Rattle.replies.specs.Writers.{more}
 use borrow.Author.Needs.{needs}
 use Rattle.replies.proofs.text.put_points.Statement.{statement}
 use Rattle.replies.proofs.text.put_points.Tie as tie

@@ -1,6 +1,6 @@
 -- Letters, and digits behind them.
 use Rattle.outline.specs.Replies.{refusedText}
-use Rattle.replies.proofs.Stores.{more}
+use Rattle.replies.specs.Writers.{more}
 use borrow.Author.Needs.{needs}
 use Rattle.replies.proofs.text.put_refused.Statement.{statement}
 use Rattle.replies.proofs.text.put_refused.Tie as tie

@@ -1,6 +1,6 @@
 -- Digits, a comma and digits, each behind the other.
 use Rattle.outline.specs.Replies.{totalText}
-use Rattle.replies.proofs.Stores.{more}
+use Rattle.replies.specs.Writers.{more}
 use borrow.Author.Needs.{needs}
 use Rattle.replies.proofs.text.put_total.Statement.{statement}
 use Rattle.replies.proofs.text.put_total.Tie as tie

@@ -3,7 +3,7 @@ use Prim.Native.Nat.{ℕ}
 use mathlib.Core.Path.{ap}
 use mathlib.Core.List.{_∷_, []}
 use Rattle.outline.specs.Replies.{lettersText, comma, weightText}
-use Rattle.replies.proofs.Stores.{more, same}
+use Rattle.replies.specs.Writers.{more, same}
 use borrow.Author.Needs.{needs}
 use Rattle.replies.proofs.text.put_weight.Statement.{statement}
 use Rattle.replies.proofs.text.put_weight.Tie as tie
