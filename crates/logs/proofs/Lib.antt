@@ -6,6 +6,10 @@ pub mod NumberLaws
 pub mod RunLaws
 -- pieces
 mod Turns
+-- pairs
+pub mod DecimalLaws
+-- tickets
+pub mod TicketLaws
 -- ticks
 pub mod ReceiveLaws
 pub mod TickLaws

@@ -1,18 +1,27 @@
 -- One turn of each loop: a byte more passed, a byte more moved. Assumes nothing.
-use Prim.Native.Nat.{ℕ, suc, _+_, _-_, _≤_, _<_}
+use Prim.Native.Nat.{ℕ, zero, suc, _+_, _-_, _≤_, _<_}
 use native.Mathlib.Numerals.{add-one}
 use native.Mathlib.Nat.{add-comm}
 use native.Mathlib.Omega.{arith}
-use mathlib.Core.Path.{_≡_, sym, ap, _∙_}
+use mathlib.Core.Path.{_≡_, refl, sym, ap, _∙_}
 use mathlib.Core.List.{List, [], _∷_, _++_, append-assoc}
 use mathlib.Core.Bool.{cond}
 use lib.Dec.{eqb}
-use lib.ListN.{length, getD, set, take, drop, length-drop}
+use lib.ListN.{length, getD, set, take, drop, length-take, length-drop}
 use lib.Seq.{drop-cons, take-suc, set-at, length-take-le, getD-append-add, getD-drop}
-use Rattle.logs.specs.Pieces.{lfFrom}
+use Rattle.outline.specs.Log.{lfFrom, between}
 
 pub look : (s : List ℕ) (i : ℕ) → i < length s → lfFrom i (drop i s) ≡ cond (eqb (getD s i 0) 10) i (lfFrom (i + 1) (drop (i + 1) s))
 look s i h = rw (drop-cons s i 0 h, add-one)
+
+-- ---- bytes that are moved down
+pub between-within : (l : List ℕ) (from end i : ℕ) → i < length (between l from end) → from + i < length l
+between-within l from end i h = omega (arith, simp (length-take, length-drop) at h)
+
+pub taken-whole : (n : ℕ) (s : List ℕ) → take (length (take n s)) s ≡ take n s
+taken-whole zero s = refl
+taken-whole (suc n) [] = refl
+taken-whole (suc n) (x ∷ s) = ap (λ (l : List ℕ). x ∷ l) (taken-whole n s)
 
 -- i bytes are moved
 abbrev pub movedBy : List ℕ → ℕ → ℕ → List ℕ

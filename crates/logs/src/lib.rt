@@ -1,13 +1,15 @@
-// The lines of a log, `count contact request`: what stands in one, and whether it can be read at all. Every line is taken, of any bytes. The
-// modules read a log from standard input and run the ticks of its lines.
+// The lines of a log, `count contact request`: what stands in one, and whether it can be read at all. Every line is taken, of any bytes.
+// The modules find the lines of an input among the bytes held, run the tick of each, and write what the ticket program prints.
 ghost use mathlib.Core.Path.{_≡_};
 ghost use Rattle.outline.specs.Log.{isContact, isRest, unreadable, logLineOf, isNone};
 use types::log::LogLine;
 use types::log::LogNumber;
 
 pub mod numerals;
+mod pairs;
 pub mod pieces;
 pub mod reader;
+pub mod tickets;
 pub mod ticks;
 
 // The most bytes of a request.

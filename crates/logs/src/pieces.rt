@@ -1,14 +1,13 @@
-// An input that is read in pieces: the lines of a piece, and the beginning of a line whose end is still to come.
+// An input that is read in pieces: the bytes of a piece, and the beginning of a line whose end is still to come.
 ghost use mathlib.Core.Path.{_≡_};
-ghost use Prim.Native.Nat.{_-_};
-ghost use lib.ListN.{take, drop};
-ghost use Rattle.logs.specs.Pieces.{nextLf, movedDown};
+ghost use lib.ListN.{length};
+ghost use Rattle.outline.specs.Log.{between, nextLf, keptIn};
 
 const LF: u8 = 10;
 
 // The bytes from a place to an end, as far as there are any.
 pub fn part(bytes: &[u8], from: usize, end: usize) -> &[u8]
-    ensures { λ r. ⌜ now r ≡ take (end - from) (drop from (now (bytes .entry))) ⌝ }
+    ensures { λ r. ⌜ now r ≡ between (now (bytes .entry)) from end ⌝ }
 {
     if end <= from {
         return &bytes[..0];
@@ -36,17 +35,24 @@ pub(crate) fn next_lf(piece: &[u8], from: usize) -> usize
     i
 }
 
-// Brings the bytes from a place on to the start of the buffer. Those that they do not cover stay.
-pub(crate) fn move_down(buffer: &mut [u8], from: usize)
-    ensures { λ _. ⌜ now (buffer .exit) ≡ movedDown (now (buffer .entry)) from ⌝ }
+// How many bytes there are from a place to an end.
+fn count_between(bytes: &[u8], from: usize, end: usize) -> usize
+    ensures { λ r. ⌜ r ≡ length (between (now (bytes .entry)) from end) ⌝ }
 {
-    if buffer.len() < from {
-        return;
-    }
-    let rest = buffer.len() - from;
+    part(bytes, from, end).len()
+}
+
+// Brings the bytes held from a place on to the start of the buffer, so that it can be read on behind them, and tells how many there are.
+// Bytes that they do not cover stay.
+pub fn keep(space: &mut [u8], from: usize, all: usize) -> usize
+    ensures count { λ r. ⌜ r ≡ length (between (now (space .entry)) from all) ⌝ }
+    ensures bytes { λ r. ⌜ now (space .exit) ≡ keptIn (now (space .entry)) from all ⌝ }
+{
+    let kept = count_between(space, from, all);
     let mut i: usize = 0;
-    while i < rest {
-        buffer[i] = buffer[from + i];
+    while i < kept {
+        space[i] = space[from + i];
         i += 1;
     }
+    kept
 }

@@ -1,32 +1,36 @@
-// A log on standard input, a line at a time. It is read in pieces of the caller's buffer, in which each line stays where it was read, so
-// an input of any length takes no more room than that. Of a line that is longer than the buffer as much as the buffer holds is given.
+// The lines of an input, by the bytes of it that a buffer holds. Each line stays where it was read, so an input of any length takes no more
+// room than that. Reading it is the programs': whichever bytes come, which line they hold is said here.
 ghost use mathlib.Core.Path.{_≡_};
-ghost use Prim.Native.Nat.{_-_};
-ghost use lib.ListN.{take, drop};
-ghost use Rattle.outline.specs.Log.{logLineOf};
-ghost use Rattle.logs.specs.Pieces.{nextLf};
-use crate::pieces::move_down;
+ghost use lib.ListN.{drop};
+ghost use Rattle.outline.specs.Log.{between, lineAt, numberBehind, placeBehind, lineBehind};
 use crate::pieces::next_lf;
 use crate::pieces::part;
-use libc::STDIN_FILENO;
-use types::log::LogLine;
+use types::log::Line;
 
-// A line's place in the buffer, and what it says.
-pub struct Line {
-    // the line's bytes, without its LF
-    pub from: usize,
-    pub end: usize,
-    // the bytes held, up to the last that was read
-    pub all: usize,
-    // the first line is 1
-    pub number: u64,
-    // there is such a line; else the input has ended
-    pub here: bool,
-    pub said: LogLine,
+// The line that begins at a place. The first one is at place 0 and has number 1.
+pub fn line_at(space: &[u8], from: usize, all: usize, number: u64) -> Line
+    ensures { λ r. ⌜ r ≡ lineAt (now (space .entry)) from all number ⌝ }
+{
+    let held = part(space, 0, all);
+    let end = next_lf(held, from);
+    let here = from < held.len();
+    let whole = end < held.len();
+    let said = crate::log_line(part(space, from, end));
+    Line {
+        from,
+        end,
+        all,
+        number,
+        here,
+        whole,
+        said,
+    }
 }
 
 // No input has lines enough to reach the end of the numbers.
-fn following(number: u64) -> u64 {
+fn number_behind(number: u64) -> u64
+    ensures { λ r. ⌜ r ≡ numberBehind number ⌝ }
+{
     if number < u64::MAX {
         number + 1
     } else {
@@ -35,70 +39,28 @@ fn following(number: u64) -> u64 {
 }
 
 // Where the next line begins: behind the LF, or at the end of what is held where the line has none.
-fn behind(all: usize, end: usize) -> usize {
-    if end < all { end + 1 } else { all }
-}
-
-// The bytes held from a place on.
-fn rest(all: usize, from: usize) -> usize {
-    if from < all { all - from } else { 0 }
-}
-
-// Reads on behind the bytes kept, and tells how many there are then.
-fn read_on(space: &mut [u8], kept: usize) -> usize {
-    if space.len() < kept {
-        return 0;
-    }
-    kept + io::read_full(STDIN_FILENO, &mut space[kept..])
-}
-
-fn line_from(space: &[u8], from: usize, all: usize, number: u64) -> Line
-    ensures end { λ r. ⌜ r .end ≡ nextLf (take (r .all) (now (space .entry))) (r .from) ⌝ }
-    ensures said { λ r. ⌜ r .said ≡ logLineOf (take (r .end - r .from) (drop (r .from) (now (space .entry)))) ⌝ }
+fn place_behind(line: Line) -> usize
+    ensures { λ r. ⌜ r ≡ placeBehind line ⌝ }
 {
-    let end = next_lf(part(space, 0, all), from);
-    let here = from < all;
-    let said = crate::log_line(part(space, from, end));
-    Line {
-        from,
-        end,
-        all,
-        number,
-        here,
-        said,
+    if line.end < line.all {
+        line.end + 1
+    } else {
+        line.all
     }
 }
 
-// The first line. Which bytes come is the world's; the promise is that the line has no LF and ends at the next, or where the bytes held
-// end, and what it says.
-pub fn first_line(space: &mut [u8]) -> Line
-    ensures end { λ r. ⌜ r .end ≡ nextLf (take (r .all) (now (space .exit))) (r .from) ⌝ }
-    ensures said { λ r. ⌜ r .said ≡ logLineOf (take (r .end - r .from) (drop (r .from) (now (space .exit)))) ⌝ }
+// The line that follows another among the bytes held. Where it is not whole the input is to be read on before it is used.
+pub fn line_behind(space: &[u8], line: Line) -> Line
+    ensures { λ r. ⌜ r ≡ lineBehind (now (space .entry)) line ⌝ }
 {
-    let all = read_on(space, 0);
-    line_from(space, 0, all, 1)
-}
-
-// The next line, promised as the first is. One whose LF is not held yet is brought to the start of the buffer, and the input
-// is read on behind it.
-pub fn next_line(line: Line, space: &mut [u8]) -> Line
-    ensures end { λ r. ⌜ r .end ≡ nextLf (take (r .all) (now (space .exit))) (r .from) ⌝ }
-    ensures said { λ r. ⌜ r .said ≡ logLineOf (take (r .end - r .from) (drop (r .from) (now (space .exit)))) ⌝ }
-{
-    let from = behind(line.all, line.end);
-    let number = following(line.number);
-    let next = line_from(space, from, line.all, number);
-    if next.end < next.all {
-        return next;
-    }
-    move_down(space, from);
-    let all = read_on(space, rest(line.all, from));
-    line_from(space, 0, all, number)
+    let from = place_behind(line);
+    let number = number_behind(line.number);
+    line_at(space, from, line.all, number)
 }
 
 // The request of a line that the buffer still holds: the line's bytes from the request's place on.
 pub fn request_in(space: &[u8], line: Line) -> &[u8]
-    ensures { λ r. ⌜ now r ≡ drop (line .said .request) (take (line .end - line .from) (drop (line .from) (now (space .entry)))) ⌝ }
+    ensures { λ r. ⌜ now r ≡ drop (line .said .request) (between (now (space .entry)) (line .from) (line .end)) ⌝ }
 {
     let said = line.said;
     part(part(space, line.from, line.end), said.request, line.end)

@@ -5,6 +5,8 @@
 // length of the reply buffer (64 without it).
 ghost use Prim.Native.Nat.{_≤_};
 use crate::given::GivenLine;
+use crate::input::first_line;
+use crate::input::next_line;
 use crate::printout::put_opened;
 use crate::printout::put_refused;
 use crate::printout::put_tick;
@@ -15,17 +17,16 @@ use libc::STDERR_FILENO;
 use libc::STDOUT_FILENO;
 use logs::numerals::number_at;
 use logs::pieces::part;
-use logs::reader::Line;
-use logs::reader::first_line;
-use logs::reader::next_line;
 use logs::reader::request_in;
 use logs::ticks::request_tick;
+use types::log::Line;
 use types::log::LogNumber;
 use types::settings::Given;
 use types::settings::Opening;
 use types::settings::Settings;
 
 mod given;
+mod input;
 mod printout;
 mod text;
 
@@ -46,14 +47,14 @@ fn run_ticks(s: Settings, first: Line, space: &mut [u8], reply: &mut [u8]) {
     let mut out = io::large_buffer();
     let mut at = put_opened(&mut out);
     let mut state = open_state(s);
-    let mut line = next_line(first, space);
+    let mut line = next_line(space, first);
     let mut turns = u64::MAX;
     while turns > 0 && line.said.read {
         let request = request_in(space, line);
         let t = request_tick(s, state, line.said.count, line.said.contact, request, reply);
         at = put_tick(&mut out, at, t, reply);
         state = t.state;
-        line = next_line(line, space);
+        line = next_line(space, line);
         turns -= 1;
     }
     let end = put_end(&mut out, at, line);

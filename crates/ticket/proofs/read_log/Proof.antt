@@ -6,10 +6,10 @@ use Rattle.ticket.proofs.read_log.Statement.{statement}
 use Rattle.ticket.proofs.read_log.Tie as tie
 
 abbrev Inv-loop : tie.InvT-loop
-Inv-loop s space₀ reply₀ state₀ line₀ turns₀ space reply state line turns = (length space ≡ 65536) × (length reply ≡ 64)
+Inv-loop s space₀ reply₀ out₀ state₀ line₀ turns₀ space reply out state line turns = (length space ≡ 65536) × (length reply ≡ 64) × (length out ≡ 256)
 
 abbrev μ-loop : tie.MeasureT-loop
-μ-loop s space₀ reply₀ state₀ line₀ turns₀ space reply state line turns = turns
+μ-loop s space₀ reply₀ out₀ state₀ line₀ turns₀ space reply out state line turns = turns
 
 large-buffer-requires : tie.Need-large-buffer-requires Inv-loop μ-loop
 large-buffer-requires c κs = search needs
@@ -38,6 +38,9 @@ slice-aggregate-request-tick c = search needs
 request-tick-requires : tie.Need-request-tick-requires Inv-loop μ-loop
 request-tick-requires c κs = search needs
 
+slice-aggregate-print-ticket : tie.Need-slice-aggregate-print-ticket Inv-loop μ-loop
+slice-aggregate-print-ticket c = search needs
+
 print-ticket-requires : tie.Need-print-ticket-requires Inv-loop μ-loop
 print-ticket-requires c κs = search needs
 
@@ -55,6 +58,9 @@ loop-less c = search needs
 
 loop-again : tie.Need-loop-again Inv-loop μ-loop
 loop-again c = search needs
+
+slice-aggregate-print-end : tie.Need-slice-aggregate-print-end Inv-loop μ-loop
+slice-aggregate-print-end c = search needs
 
 print-end-requires : tie.Need-print-end-requires Inv-loop μ-loop
 print-end-requires c κs = search needs
@@ -77,11 +83,13 @@ read-log-spec =
     request-in-requires
     slice-aggregate-request-tick
     request-tick-requires
+    slice-aggregate-print-ticket
     print-ticket-requires
     slice-aggregate-next-line
     next-line-requires
     sub-turns
     loop-less
     loop-again
+    slice-aggregate-print-end
     print-end-requires
     returns)

@@ -6,7 +6,7 @@ use borrow.Author.Needs.{needs}
 use borrow.Author.Tests.{eq-eqb, ne-eqb}
 use denote.Ref.{now}
 use lib.ListN.{length, drop, drop-of-length-le}
-use Rattle.logs.specs.Pieces.{lfFrom, nextLf}
+use Rattle.outline.specs.Log.{lfFrom, nextLf}
 use Rattle.logs.proofs.Turns.{look}
 use Rattle.logs.proofs.pieces.next_lf.Statement.{statement}
 use Rattle.logs.proofs.pieces.next_lf.Tie as tie

@@ -1,0 +1,18 @@
+-- One more, or the last number again.
+use native.Mathlib.Numerals.{add-one}
+use borrow.Author.Needs.{needs}
+use borrow.Author.Tests.{lt-ltb, le-ltb}
+use Rattle.logs.proofs.reader.number_behind.Statement.{statement}
+use Rattle.logs.proofs.reader.number_behind.Tie as tie
+
+add-result : tie.Need-add-result
+add-result c = search needs
+
+returns : tie.Need-returns
+returns c = simp (lt-ltb _ _ (c .if1 .taken), add-one)
+
+returns-2 : tie.Need-returns-2
+returns-2 c = simp (le-ltb _ _ (c .if1 .left))
+
+pub number-behind-spec : {M : Type 1} → statement M
+number-behind-spec = tie.close (tie.spec add-result returns returns-2)
