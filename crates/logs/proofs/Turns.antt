@@ -15,8 +15,8 @@ pub look : (s : List ℕ) (i : ℕ) → i < length s → lfFrom i (drop i s) ≡
 look s i h = rw (drop-cons s i 0 h, add-one)
 
 -- ---- bytes that are moved down
-pub between-within : (l : List ℕ) (from end i : ℕ) → i < length (between l from end) → from + i < length l
-between-within l from end i h = omega (arith, simp (length-take, length-drop) at h)
+pub between-within : (l : List ℕ) (from end : ℕ) → length (between l from end) ≤ length l - from
+between-within l from end = simp (length-take, length-drop) (omega arith)
 
 pub taken-whole : (n : ℕ) (s : List ℕ) → take (length (take n s)) s ≡ take n s
 taken-whole zero s = refl
