@@ -18,6 +18,8 @@ pub mod Worked
 pub mod LogFigures
 pub mod Rules
 pub mod Finishes
+pub mod LineFigures
+pub mod CommandFigures
 -- what stays true: the book, requests
 pub mod BookStep
 pub mod DaySums

@@ -25,6 +25,8 @@ pub mod Ticket
 pub mod LogFigures
 pub mod Rules
 pub mod Finishes
+pub mod LineFigures
+pub mod CommandFigures
 pub mod Owed
 pub mod AnalogOwed
 -- runs, their histories, and what stays true over them

@@ -5,6 +5,8 @@ ghost use Rattle.outline.specs.Worked.{Batches, Letters, Lines};
 ghost use Rattle.outline.specs.LogFigures.{Logs, Inputs, Tickets};
 ghost use Rattle.outline.specs.Rules.{Weighed, Refused, Staged, Booked};
 ghost use Rattle.outline.specs.Finishes.{Finished};
+ghost use Rattle.outline.specs.LineFigures.{Received, Spoken, Logged};
+ghost use Rattle.outline.specs.CommandFigures.{Commanded};
 ghost use Rattle.outline.specs.Owed.{OpeningLaw, RawLaw, SetpointLaw, TimedLaw};
 ghost use Rattle.outline.specs.AnalogOwed.{ScaleLaw, AnalogLaws};
 ghost use Rattle.outline.specs.EveryLine.{ReplyBounded, BytesStay, AnsweredInOrder, RefusedLines, ReadBackOnLine, GatesShutOnLine, TicketOnLine};
@@ -27,6 +29,10 @@ pub fn paper_holds()
     ensures staged { λ r. ⌜ Staged ⌝ }
     ensures booked { λ r. ⌜ Booked ⌝ }
     ensures finished { λ r. ⌜ Finished ⌝ }
+    ensures received { λ r. ⌜ Received ⌝ }
+    ensures spoken { λ r. ⌜ Spoken ⌝ }
+    ensures logged { λ r. ⌜ Logged ⌝ }
+    ensures commanded { λ r. ⌜ Commanded ⌝ }
     ensures opening { λ r. ⌜ OpeningLaw ⌝ }
     ensures raw { λ r. ⌜ RawLaw ⌝ }
     ensures setpoints { λ r. ⌜ SetpointLaw ⌝ }
