@@ -20,6 +20,11 @@ pub mod Rules
 pub mod Finishes
 pub mod LineFigures
 pub mod CommandFigures
+pub mod OpeningFigures
+pub mod RequestFigures
+pub mod StageFigures
+pub mod WeightFigures
+pub mod OutputFigures
 -- what stays true: the book, requests
 pub mod BookStep
 pub mod DaySums

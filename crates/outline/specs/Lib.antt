@@ -27,6 +27,11 @@ pub mod Rules
 pub mod Finishes
 pub mod LineFigures
 pub mod CommandFigures
+pub mod OpeningFigures
+pub mod RequestFigures
+pub mod StageFigures
+pub mod WeightFigures
+pub mod OutputFigures
 pub mod Owed
 pub mod AnalogOwed
 -- runs, their histories, and what stays true over them

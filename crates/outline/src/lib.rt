@@ -7,6 +7,11 @@ ghost use Rattle.outline.specs.Rules.{Weighed, Refused, Staged, Booked};
 ghost use Rattle.outline.specs.Finishes.{Finished};
 ghost use Rattle.outline.specs.LineFigures.{Received, Spoken, Logged};
 ghost use Rattle.outline.specs.CommandFigures.{Commanded};
+ghost use Rattle.outline.specs.OpeningFigures.{Opened};
+ghost use Rattle.outline.specs.RequestFigures.{Asked};
+ghost use Rattle.outline.specs.StageFigures.{Sequenced};
+ghost use Rattle.outline.specs.WeightFigures.{Tracked};
+ghost use Rattle.outline.specs.OutputFigures.{Displayed};
 ghost use Rattle.outline.specs.Owed.{OpeningLaw, RawLaw, SetpointLaw, TimedLaw};
 ghost use Rattle.outline.specs.AnalogOwed.{ScaleLaw, AnalogLaws};
 ghost use Rattle.outline.specs.EveryLine.{ReplyBounded, BytesStay, AnsweredInOrder, RefusedLines, ReadBackOnLine, GatesShutOnLine, TicketOnLine};
@@ -33,6 +38,11 @@ pub fn paper_holds()
     ensures spoken { λ r. ⌜ Spoken ⌝ }
     ensures logged { λ r. ⌜ Logged ⌝ }
     ensures commanded { λ r. ⌜ Commanded ⌝ }
+    ensures opened { λ r. ⌜ Opened ⌝ }
+    ensures asked { λ r. ⌜ Asked ⌝ }
+    ensures sequenced { λ r. ⌜ Sequenced ⌝ }
+    ensures tracked { λ r. ⌜ Tracked ⌝ }
+    ensures displayed { λ r. ⌜ Displayed ⌝ }
     ensures opening { λ r. ⌜ OpeningLaw ⌝ }
     ensures raw { λ r. ⌜ RawLaw ⌝ }
     ensures setpoints { λ r. ⌜ SetpointLaw ⌝ }
