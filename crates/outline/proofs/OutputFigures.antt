@@ -21,6 +21,7 @@ displayed = record {
   first-at-10 = refl;
   first-judgement = refl;
   near-zero = refl;
+  near-zero-of-gross = refl;
   full = refl;
   full-in-mode-1 = refl;
   analog-numbers = refl;

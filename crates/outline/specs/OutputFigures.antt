@@ -1,5 +1,5 @@
--- Worked by hand from the outline: all outputs of the first tick, near zero and full at their limits, the analog value of what is displayed,
--- and the longest block. Statements; they are computed in proofs/OutputFigures.antt.
+-- Worked by hand from the outline: all outputs of the first tick, near zero and full at their limits, the analog value of what is
+-- displayed, and the longest block. Statements; they are computed in proofs/OutputFigures.antt.
 use Prim.Native.Nat.{ℕ}
 use mathlib.Core.Path.{_≡_}
 use mathlib.Core.Bool.{Bool, true, false}
@@ -25,7 +25,7 @@ use Rattle.outline.specs.Numbers.{judgementNumber, analogNumber, analogV
 use Rattle.outline.specs.Figures.{minus, givenOf, listA, settingsA, tickAt, told}
 use Rattle.outline.specs.Worked.{Leg, leg, answers}
 use Rattle.outline.specs.Rules.{settingsLoss}
-use Rattle.outline.specs.RequestFigures.{tared}
+use Rattle.outline.specs.RequestFigures.{settings10, tared}
 
 -- ---- the first tick after the opening
 abbrev pub first : ℤ → Answer
@@ -54,6 +54,9 @@ withLimits s count = told s (tickAt s openState (pos 0) (request.Set limitsSet) 
 
 abbrev pub nearAt : ℤ → Bool
 nearAt count = withLimits settingsA count .near
+
+abbrev pub nearTared : ℤ → Bool
+nearTared count = told settings10 tared count request.Nothing .near
 
 abbrev pub fullAt : ℤ → Bool
 fullAt count = withLimits settingsLoss count .full
@@ -92,12 +95,15 @@ pub record Displayed : Type 0 where
   pub first-judgement : judgementNumber (first (pos 0) .judgement) ≡ 0
   -- "Near-zero output: gross at most near zero.": 5 and not 6
   pub near-zero : nearAt (pos 50) ∷ nearAt (pos 60) ∷ nearAt (minus 600) ∷ [] ≡ true ∷ false ∷ true ∷ []
+  -- gross, and not net: with a tare of 10 and near zero 0, on at gross 0 and off at 5, where net is -5
+  pub near-zero-of-gross : nearTared (pos 0) ∷ nearTared (pos 50) ∷ [] ≡ true ∷ false ∷ []
   -- "Full output: mode 2 and gross above full.": 51 and not 50; in mode 1 never
   pub full : fullAt (pos 500) ∷ fullAt (pos 510) ∷ fullAt (minus 600) ∷ [] ≡ false ∷ true ∷ false ∷ []
   pub full-in-mode-1 : withLimits settingsA (pos 600) .full ≡ false
   -- "The answer is a current, a voltage or no value": 0 for none, 1 for a current, 2 for a voltage
   pub analog-numbers :
-      analogNumber (firstAnalog 0 (pos 0)) ∷ analogNumber (firstAnalog 1 (pos 0)) ∷ analogNumber (firstAnalog 2 (pos 0)) ∷ [] ≡ 0 ∷ 1 ∷ 2 ∷ []
+      analogNumber (firstAnalog 0 (pos 0)) ∷ analogNumber (firstAnalog 1 (pos 0)) ∷ analogNumber (firstAnalog 2 (pos 0)) ∷ []
+      ≡ 0 ∷ 1 ∷ 2 ∷ []
   pub analog-none : analogValues (firstAnalog 0 (pos 0)) ≡ []
   pub analog-current : analogValues (firstAnalog 1 (pos 0)) ∷ analogValues (firstAnalog 1 (pos 100000)) ∷ [] ≡ number 4 ∷ number 20 ∷ []
   pub analog-voltage : analogValues (firstAnalog 2 (pos 0)) ∷ analogValues (firstAnalog 2 (pos 100000)) ∷ [] ≡ number 0 ∷ number 10 ∷ []
