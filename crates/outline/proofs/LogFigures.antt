@@ -12,7 +12,7 @@ use Rattle.outline.specs.Totals.{bookedTotals, bookedSequence, takenBack
 use Rattle.outline.specs.Requests.{rulingOf, grantedOf, decidedOf}
 use Rattle.outline.specs.Analog.{betweenOf, clipOf, analogOf}
 use Rattle.outline.specs.Tick.{openState, enteredOf, weightsOf, settledOf, servedOf, withTracking, finishedOf, steppedOf, endedOf, nextOf, outputsOf, tickOf, countIn}
-use Rattle.outline.specs.Log.{numberAt, logLineOf, isNone, nextLf, lineAt, lineBehind, keptIn}
+use Rattle.outline.specs.Log.{numberAt, logLineOf, isNone, nextLf, lineAt, lineBehind, nextLine, keptIn}
 use Rattle.outline.specs.Ticket.{decimalIn, decimalText, pairText, dayText, leftText, ticketText, refusedText}
 use Rattle.outline.specs.LogFigures.{Logs, Inputs, Tickets}
 
@@ -45,7 +45,7 @@ logs = record {
 }
 
 pub inputs : Inputs
-unfolding numberAt logLineOf nextLf lineAt lineBehind keptIn
+unfolding numberAt logLineOf nextLf lineAt lineBehind nextLine keptIn
 inputs = record {
   at-1 = refl;
   behind-1 = refl;
@@ -55,6 +55,7 @@ inputs = record {
   last-lf = refl;
   empty-line = refl;
   part-held = refl;
+  read-on = refl;
   last-number = refl;
   kept = refl;
   kept-none = refl;
@@ -67,6 +68,7 @@ tickets = record {
   falls = refl;
   one-batch = refl;
   none = refl;
+  left = refl;
   refused = refl;
   nought = refl;
   nine = refl;

@@ -8,13 +8,14 @@ use mathlib.Core.List.{List, [], _∷_, _++_}
 use lib.ListN.{replicate}
 use lib.IntN.{pos}
 use Rattle.types.specs.declared.requests.Request.the-variants as request
+use Rattle.types.specs.declared.stages.Batch.the-variants as batch
 use Rattle.types.specs.declared.machine.Ticked.{Ticked}
 use Rattle.types.specs.declared.log.LogLine.{LogLine}
 use Rattle.types.specs.declared.log.Line.{Line}
 use Rattle.outline.specs.Limits.{lineNumberLimit}
 use Rattle.outline.specs.Figures.{minus, settingsA, tickAt, beforeClose, lastOfFalls, oneBatch}
-use Rattle.outline.specs.Log.{tickLine, unreadable, logLineOf, isNone, lineAt, lineBehind, numberBehind, keptIn}
-use Rattle.outline.specs.Ticket.{decimalText, ticketText, refusedText}
+use Rattle.outline.specs.Log.{tickLine, unreadable, logLineOf, isNone, lineAt, lineBehind, numberBehind, nextLine, keptIn}
+use Rattle.outline.specs.Ticket.{decimalText, leftText, ticketText, refusedText}
 use Rattle.outline.specs.Worked.{ascii}
 
 pub record Logs : Type 0 where
@@ -84,6 +85,10 @@ pub record Inputs : Type 0 where
   pub empty-line : lineBehind input (lineIn 4 34 25 32 true true unreadable) ≡ lineIn 5 34 33 33 true true unreadable
   -- a line that is held in part says what that part says
   pub part-held : lineAt input 7 10 2 ≡ lineIn 2 10 7 10 true false unreadable
+  -- one that is read on stands at the start of the buffer then
+  pub read-on :
+      nextLine input (printed "-30 0 --") 9 (lineIn 1 10 0 6 true true (tickLine (pos 0) false 4))
+      ≡ lineIn 2 9 0 8 true true (tickLine (minus 30) false 6)
   pub last-number : numberBehind lineNumberLimit ≡ lineNumberLimit
   pub kept : keptIn (ascii "abcdefgh") 3 6 ≡ ascii "defdefgh"
   pub kept-none : keptIn (ascii "abcdefgh") 6 6 ≡ ascii "abcdefgh"
@@ -109,6 +114,10 @@ pub record Tickets : Type 0 where
       ++ printed "tracked=0" ++ printed "batches=1" ++ printed "total=10"
   -- a close that is refused, here in a bad tick
   pub none : ticketAfter (tickAt settingsA beforeClose (pos 2000001) request.DayClose) ≡ []
+  -- tracked, and not the zero, of which a keyed one is a part
+  pub left :
+      leftText (record { zero = pos 7; tracked = minus 3; tare = pos 5; counter = 2 }) (record { total = 12; count = 2; back = batch.Nothing })
+      ≡ printed "tracked=-3" ++ printed "batches=2" ++ printed "total=12"
   pub refused : refusedText 12 ≡ printed "refused=12"
   -- numbers
   pub nought : decimalText 0 ≡ ascii "0"

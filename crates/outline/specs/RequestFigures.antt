@@ -64,6 +64,24 @@ standing st =
     stageNumber (st .sequence .stage) ∷ errorNumber (st .sequence .error) ∷ judgementNumber (st .sequence .judgement)
     ∷ st .totals .total ∷ st .totals .count ∷ []
 
+-- setpoints with this final, over, under and near zero, and the rest 0
+abbrev pub setNumber : ℕ → ℕ → ℕ → ℕ → ℕ
+setNumber f over under near =
+    number openState (pos 0) (request.Set (record { target = f; fall = 0; preliminary = 0; optional = 0; over = over; under = under; near = near }))
+
+-- a tick's zero in force and tare, and the net that it answers
+abbrev pub weighed : Settings → State → ℤ → Request → List ℤ
+weighed s st count r =
+    let t = tickAt s st count r in
+    t .state .weighing .zero ∷ t .state .weighing .tare ∷ t .answer .reading .net ∷ []
+
+-- d 5 as well: 3,000 divisions are 15,000 display digits, more than C
+abbrev pub settings10D5 : Settings
+settings10D5 = settingsOf (givenOf (set (set listA 9 (pos 10)) 4 (pos 5)))
+
+abbrev pub calmD5 : State
+calmD5 = stateAfter settings10D5 (leg 10 (pos 30000) request.Nothing ∷ []) openState
+
 -- the stage of the tick after the start, with this request
 abbrev pub stageWith : Request → ℕ
 stageWith r = stageNumber (answerTo running (pos 0) r .stage)
@@ -88,6 +106,15 @@ pub record Asked : Type 0 where
   pub set-bad-final : tickAt settings10 openState (pos 2000001) (request.Set (setpoints 10 0 0 0)) .state .setpoints .target ≡ 10
   pub set-overload : number openState (pos 110000) (request.Set (setpoints 10 0 0 0)) ≡ 0
   pub set-overload-final : tickAt settings10 openState (pos 110000) (request.Set (setpoints 10 0 0 0)) .state .setpoints .target ≡ 10
+  -- "Seven numbers 0..999,999": at the limit, and one more in each of four
+  pub set-at-limit : setNumber 999999 999999 999999 999999 ≡ 0
+  pub set-beyond :
+      setNumber 1000000 0 0 0 ∷ setNumber 10 1000000 0 0 ∷ setNumber 10 0 1000000 0 ∷ setNumber 10 0 0 1000000 ∷ [] ≡ 6 ∷ 6 ∷ 6 ∷ 6 ∷ []
+  -- "zero in force becomes raw": the tare stays, and net is minus the tare
+  pub zero-with-tare : weighed settings10 tared (pos 100) request.Zero ≡ pos 100 ∷ pos 10 ∷ minus 10 ∷ []
+  -- "Tare: accepted when gross divisions lie in 0..C; tare becomes gross."
+  pub tare-d-5 : outcomeNumber (told settings10D5 calmD5 (pos 30000) request.Tare .outcome) ≡ 0
+  pub tare-d-5-taken : weighed settings10D5 calmD5 (pos 30000) request.Tare ≡ pos 0 ∷ pos 15000 ∷ pos 0 ∷ []
   -- 2 is not to tare clear: "Tare clear makes tare 0", and net is gross
   pub clear-overload : number tared (pos 110000) request.TareClear ≡ 0
   pub clear-overload-tare : tickAt settings10 tared (pos 110000) request.TareClear .state .weighing .tare ≡ pos 0
