@@ -22,26 +22,43 @@ pub fn open_gates(p: Setpoints, stage: Stage) -> Gates
         Stage::SmallFlow => gates(false, false),
         Stage::JudgeDelay(_) => shut(),
         Stage::JudgeWait => shut(),
+        Stage::DischargeStart(_) => shut(),
+        Stage::Discharge => discharge(),
+        Stage::DischargeEnd(_) => discharge(),
     }
 }
 
 fn shut() -> Gates
-    ensures { λ r. ⌜ r ≡ (record { large = Bool.false; medium = Bool.false; small = Bool.false }) ⌝ }
+    ensures { λ r. ⌜ r ≡ (record { large = Bool.false; medium = Bool.false; small = Bool.false; discharge = Bool.false }) ⌝ }
 {
     Gates {
         large: false,
         medium: false,
         small: false,
+        discharge: false,
     }
 }
 
-// The small gate, with the others as given.
+// The small gate, with the other feed gates as given.
 fn gates(large: bool, medium: bool) -> Gates
-    ensures { λ r. ⌜ r ≡ (record { large = large; medium = medium; small = Bool.true }) ⌝ }
+    ensures { λ r. ⌜ r ≡ (record { large = large; medium = medium; small = Bool.true; discharge = Bool.false }) ⌝ }
 {
     Gates {
         large,
         medium,
         small: true,
+        discharge: false,
+    }
+}
+
+// The discharge gate alone.
+fn discharge() -> Gates
+    ensures { λ r. ⌜ r ≡ (record { large = Bool.false; medium = Bool.false; small = Bool.false; discharge = Bool.true }) ⌝ }
+{
+    Gates {
+        large: false,
+        medium: false,
+        small: false,
+        discharge: true,
     }
 }

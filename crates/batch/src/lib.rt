@@ -1,8 +1,8 @@
-// Step 6: the flow clock, the errors that end a batch, and the move that its stage makes.
+// Step 6: the clocks, the errors that end a batch or a discharge, and the move that its stage makes.
 ghost use mathlib.Core.Path.{_≡_};
 ghost use mathlib.Core.Bool.{true, cond};
 ghost use Prim.Native.Nat.{suc, _<_};
-ghost use Rattle.outline.specs.Stages.{factsAt, flowingOf, clockOf, landOf, advanceOf};
+ghost use Rattle.outline.specs.Stages.{factsAt, flowingOf, emptyingOf, clockOf, landOf, advanceOf};
 use crate::sequence::failed;
 use crate::sequence::is_idle;
 use crate::stages::moved;
@@ -34,21 +34,45 @@ fn is_flowing(stage: Stage) -> bool
         Stage::SmallFlow => true,
         Stage::JudgeDelay(_) => true,
         Stage::JudgeWait => true,
+        Stage::DischargeStart(_) => false,
+        Stage::Discharge => false,
+        Stage::DischargeEnd(_) => false,
     }
 }
 
-// The flow clock of this tick: one more in a flow stage, where it has not passed Q, and else 0.
-fn clock_after(clock: u16, flowing: bool) -> u16
-    requires { ⌜ (flowing ≡ true → clock < 65535) ⌝ }
-    ensures { λ r. ⌜ r ≡ cond flowing (suc clock) 0 ⌝ }
+// 15 and 16, where the discharge's clock runs.
+fn is_emptying(stage: Stage) -> bool
+    ensures { λ r. ⌜ r ≡ emptyingOf stage ⌝ }
 {
-    if flowing {
+    match stage {
+        Stage::Idle => false,
+        Stage::StartDelay(_) => false,
+        Stage::LargeDisable(_) => false,
+        Stage::LargeFlow => false,
+        Stage::MediumDisable(_) => false,
+        Stage::MediumFlow => false,
+        Stage::SmallDisable(_) => false,
+        Stage::SmallFlow => false,
+        Stage::JudgeDelay(_) => false,
+        Stage::JudgeWait => false,
+        Stage::DischargeStart(_) => false,
+        Stage::Discharge => true,
+        Stage::DischargeEnd(_) => true,
+    }
+}
+
+// The clock of this tick: one more where one runs, which has not passed its limit, and else 0.
+fn clock_after(clock: u16, running: bool) -> u16
+    requires { ⌜ (running ≡ true → clock < 65535) ⌝ }
+    ensures { λ r. ⌜ r ≡ cond running (suc clock) 0 ⌝ }
+{
+    if running {
         return clock + 1;
     }
     0
 }
 
-// The sequence after a move, with the flow clock of this tick.
+// The sequence after a move, with the clock of this tick.
 fn landed(q: Sequence, clock: u16, m: Move) -> Advanced
     requires { ⌜ clock ≡ clockOf q ⌝ }
     ensures { λ r. ⌜ r ≡ landOf q m ⌝ }
@@ -78,10 +102,19 @@ fn landed(q: Sequence, clock: u16, m: Move) -> Advanced
             },
             finished: true,
         },
+        Move::Emptied => Advanced {
+            sequence: Sequence {
+                stage: Stage::Idle,
+                clock: 0,
+                error,
+                judgement,
+            },
+            finished: false,
+        },
     }
 }
 
-// Step 6: error 9, then error 6, then the stage. `unfit` is a bad or overloaded tick, v the compared weight.
+// Step 6: error 9, then the clock (error 6 or 8), then the stage. `unfit` is a bad or overloaded tick, v the compared weight.
 pub fn advance(
     b: Batching,
     p: Setpoints,
@@ -89,8 +122,9 @@ pub fn advance(
     unfit: bool,
     stable: bool,
     v: i64,
+    gross: i32,
 ) -> Advanced
-    ensures { λ r. ⌜ r ≡ advanceOf b p q (factsAt p unfit stable v) ⌝ }
+    ensures { λ r. ⌜ r ≡ advanceOf b p q (factsAt p unfit stable v gross) ⌝ }
 {
     let stage = q.stage;
     if is_idle(stage) {
@@ -105,7 +139,7 @@ pub fn advance(
             finished: false,
         };
     }
-    // The clock is tested before it grows: at Q it would pass Q in this tick.
+    // A clock is tested before it grows: at its limit it would pass it in this tick.
     let flowing = is_flowing(stage);
     if flowing {
         if b.flow <= q.clock {
@@ -115,9 +149,18 @@ pub fn advance(
             };
         }
     }
+    let emptying = is_emptying(stage);
+    if emptying {
+        if b.discharge.limit <= q.clock {
+            return Advanced {
+                sequence: failed(q, SequenceError::DischargeTime),
+                finished: false,
+            };
+        }
+    }
     landed(
         q,
-        clock_after(q.clock, flowing),
-        moved(b, p, stage, unfit, stable, v),
+        clock_after(q.clock, flowing | emptying),
+        moved(b, p, stage, unfit, stable, v, gross),
     )
 }

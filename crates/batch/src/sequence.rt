@@ -1,8 +1,8 @@
-// The sequence at rest and between stages: how it opens, starts, stops and fails, and whether a batch is under way.
+// The sequence at rest and between stages: how it opens, starts, discharges, stops and fails, and whether it is under way.
 ghost use mathlib.Core.Path.{_≡_};
 ghost use Rattle.types.specs.declared.stages.SequenceError.{SequenceError};
 ghost use Rattle.types.specs.declared.stages.Judgement.{Judgement};
-ghost use Rattle.outline.specs.Stages.{openSequence, idleOf, failedOf, startSequence, stopSequence};
+ghost use Rattle.outline.specs.Stages.{openSequence, idleOf, failedOf, startSequence, dischargeSequence, stopError, stopSequence};
 use types::stages::Judgement;
 use types::stages::Sequence;
 use types::stages::SequenceError;
@@ -34,6 +34,20 @@ pub fn start_sequence() -> Sequence
     fresh(Stage::StartDelay(0))
 }
 
+// An accepted discharge: no error, and the judgement stays.
+pub fn discharge_sequence(q: Sequence) -> Sequence
+    ensures { λ r. ⌜ r ≡ dischargeSequence q ⌝ }
+{
+    let error = SequenceError::None;
+    let kept = q.judgement;
+    Sequence {
+        stage: Stage::DischargeStart(0),
+        clock: 0,
+        error,
+        judgement: kept,
+    }
+}
+
 // Stage 00.
 pub fn is_idle(stage: Stage) -> bool
     ensures { λ r. ⌜ r ≡ idleOf stage ⌝ }
@@ -49,6 +63,9 @@ pub fn is_idle(stage: Stage) -> bool
         Stage::SmallFlow => false,
         Stage::JudgeDelay(_) => false,
         Stage::JudgeWait => false,
+        Stage::DischargeStart(_) => false,
+        Stage::Discharge => false,
+        Stage::DischargeEnd(_) => false,
     }
 }
 
@@ -65,7 +82,28 @@ pub(crate) fn failed(q: Sequence, e: SequenceError) -> Sequence
     }
 }
 
-// A stop: error 4 in 03 to 11, nothing in 00.
+// The error of a stop: 4 in 03 to 11, 7 in 14 to 16. In 00 it is none of either, and is not asked for.
+fn stop_error(stage: Stage) -> SequenceError
+    ensures { λ r. ⌜ r ≡ stopError stage ⌝ }
+{
+    match stage {
+        Stage::Idle => SequenceError::Stopped,
+        Stage::StartDelay(_) => SequenceError::Stopped,
+        Stage::LargeDisable(_) => SequenceError::Stopped,
+        Stage::LargeFlow => SequenceError::Stopped,
+        Stage::MediumDisable(_) => SequenceError::Stopped,
+        Stage::MediumFlow => SequenceError::Stopped,
+        Stage::SmallDisable(_) => SequenceError::Stopped,
+        Stage::SmallFlow => SequenceError::Stopped,
+        Stage::JudgeDelay(_) => SequenceError::Stopped,
+        Stage::JudgeWait => SequenceError::Stopped,
+        Stage::DischargeStart(_) => SequenceError::DischargeStopped,
+        Stage::Discharge => SequenceError::DischargeStopped,
+        Stage::DischargeEnd(_) => SequenceError::DischargeStopped,
+    }
+}
+
+// A stop: an error in 03 to 11 and in 14 to 16, nothing in 00.
 pub fn stop_sequence(q: Sequence) -> Sequence
     ensures { λ r. ⌜ r ≡ stopSequence q ⌝ }
 {
@@ -73,5 +111,5 @@ pub fn stop_sequence(q: Sequence) -> Sequence
     if is_idle(stage) {
         return q;
     }
-    failed(q, SequenceError::Stopped)
+    failed(q, stop_error(stage))
 }

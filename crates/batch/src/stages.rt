@@ -5,6 +5,7 @@ use crate::comparison::is_over;
 use crate::comparison::is_reached;
 use crate::comparison::is_under;
 use setpoints::has_no_large;
+use setpoints::levels::is_at_near;
 use types::settings::Batching;
 use types::settings::Mode;
 use types::stages::Judgement;
@@ -52,8 +53,8 @@ fn first_flow(m: Mode, p: Setpoints) -> Stage
 }
 
 // The end of 03.
-fn after_start(m: Mode, p: Setpoints, unfit: bool, stable: bool, v: i64) -> Move
-    ensures { λ r. ⌜ r ≡ afterStart m p (factsAt p unfit stable v) ⌝ }
+fn after_start(m: Mode, p: Setpoints, unfit: bool, stable: bool, v: i64, gross: i32) -> Move
+    ensures { λ r. ⌜ r ≡ afterStart m p (factsAt p unfit stable v gross) ⌝ }
 {
     if p.target == 0 {
         return Move::Fail(SequenceError::NoFinal);
@@ -65,8 +66,8 @@ fn after_start(m: Mode, p: Setpoints, unfit: bool, stable: bool, v: i64) -> Move
 }
 
 // The judgement of a finish.
-fn judge(p: Setpoints, unfit: bool, stable: bool, v: i64) -> Judgement
-    ensures { λ r. ⌜ r ≡ judgedOf (factsAt p unfit stable v) ⌝ }
+fn judge(p: Setpoints, unfit: bool, stable: bool, v: i64, gross: i32) -> Judgement
+    ensures { λ r. ⌜ r ≡ judgedOf (factsAt p unfit stable v gross) ⌝ }
 {
     if is_over(p, v) {
         return Judgement::Over;
@@ -85,8 +86,9 @@ pub(crate) fn moved(
     unfit: bool,
     stable: bool,
     v: i64,
+    gross: i32,
 ) -> Move
-    ensures { λ r. ⌜ r ≡ moveOf b p stage (factsAt p unfit stable v) ⌝ }
+    ensures { λ r. ⌜ r ≡ moveOf b p stage (factsAt p unfit stable v gross) ⌝ }
 {
     match stage {
         Stage::Idle => Move::To(Stage::Idle),
@@ -94,7 +96,7 @@ pub(crate) fn moved(
             Timing::Still(u) => Move::To(Stage::StartDelay(u)),
             Timing::Over => {
                 let mode = b.mode;
-                after_start(mode, p, unfit, stable, v)
+                after_start(mode, p, unfit, stable, v, gross)
             }
         },
         Stage::LargeDisable(t) => match wait(b.large, t) {
@@ -136,10 +138,25 @@ pub(crate) fn moved(
         },
         Stage::JudgeWait => {
             if stable {
-                Move::Finish(judge(p, unfit, stable, v))
+                Move::Finish(judge(p, unfit, stable, v, gross))
             } else {
                 Move::To(Stage::JudgeWait)
             }
         }
+        Stage::DischargeStart(t) => match wait(b.discharge.start, t) {
+            Timing::Still(u) => Move::To(Stage::DischargeStart(u)),
+            Timing::Over => Move::To(Stage::Discharge),
+        },
+        Stage::Discharge => {
+            if is_at_near(p, gross) {
+                Move::To(Stage::DischargeEnd(0))
+            } else {
+                Move::To(Stage::Discharge)
+            }
+        }
+        Stage::DischargeEnd(t) => match wait(b.discharge.end, t) {
+            Timing::Still(u) => Move::To(Stage::DischargeEnd(u)),
+            Timing::Over => Move::Emptied,
+        },
     }
 }

@@ -71,7 +71,7 @@ fn reading_bits(x: Reading) -> u32 {
 }
 
 fn gate_bits(g: Gates) -> u32 {
-    bit(g.large, 8) | bit(g.medium, 16) | bit(g.small, 32)
+    bit(g.large, 8) | bit(g.medium, 16) | bit(g.small, 32) | bit(g.discharge, 64)
 }
 
 fn is_refused(outcome: Outcome) -> bool {
@@ -100,7 +100,7 @@ fn closed_opening(closed: Closed) -> i32 {
 fn signal_bits(a: Answer) -> u32 {
     let outcome = a.outcome;
     let analog = a.analog;
-    bit(a.near, 64) | bit(a.full, 128) | bit(is_high(analog), 256) | bit(is_refused(outcome), 512)
+    bit(a.near, 128) | bit(a.full, 256) | bit(is_high(analog), 512) | bit(is_refused(outcome), 1024)
 }
 
 pub(crate) fn looked(seen: Seen, a: Answer) -> Seen {
@@ -124,7 +124,7 @@ fn is_done(told: LineAnswer) -> bool {
 pub(crate) fn looked_at_line(seen: Seen, t: LineTick) -> Seen {
     let told = t.told;
     let mut now = looked(seen, t.answer);
-    now.flags = now.flags ^ bit(is_done(told), 1024);
+    now.flags = now.flags ^ bit(is_done(told), 2048);
     now.replied = now.replied ^ t.length;
     now
 }

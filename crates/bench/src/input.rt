@@ -2,9 +2,9 @@
 //
 //     0          the mode: 1 a block's ticks, 2 ticks without a request, 3 ticks with a request, 4 ticks with a line
 //     1          the rounds
-//     2 to 23    the settings, in the order of the outline's table
-//     24 to 30   the setpoints, in the order of the command SS
-//     31         the count of the ticks before the first round
+//     2 to 26    the settings, in the order of the outline's table, and then those of a discharge
+//     27 to 33   the setpoints, in the order of the command SS
+//     34         the count of the ticks before the first round
 //
 // Then 16 lines of 64 bytes, each a serial command with its CR LF and zeros behind it, and up to three blocks of 4,096 counts. A number that
 // the input is too short for is 0.
@@ -15,11 +15,11 @@ use types::stages::Setpoints;
 const NUMBER_BYTES: usize = 3;
 
 // The numbers before the lines, and where the lines and the counts begin.
-const NUMBERS: usize = 32;
+const NUMBERS: usize = 35;
 
-const LINES_AT: usize = 96;
+const LINES_AT: usize = 105;
 
-const COUNTS_AT: usize = 1_120;
+const COUNTS_AT: usize = 1_129;
 
 const BLOCK: usize = 4_096;
 
@@ -90,18 +90,21 @@ pub(crate) fn given(bytes: &[u8]) -> Given {
         board: signed(bytes, 21),
         low: signed(bytes, 22),
         high: signed(bytes, 23),
+        dischargestart: signed(bytes, 24),
+        dischargeend: signed(bytes, 25),
+        dischargelimit: signed(bytes, 26),
     }
 }
 
 fn setpoints(bytes: &[u8]) -> Setpoints {
     Setpoints {
-        target: number(bytes, 24),
-        fall: number(bytes, 25),
-        preliminary: number(bytes, 26),
-        optional: number(bytes, 27),
-        over: number(bytes, 28),
-        under: number(bytes, 29),
-        near: number(bytes, 30),
+        target: number(bytes, 27),
+        fall: number(bytes, 28),
+        preliminary: number(bytes, 29),
+        optional: number(bytes, 30),
+        over: number(bytes, 31),
+        under: number(bytes, 32),
+        near: number(bytes, 33),
     }
 }
 
@@ -110,7 +113,7 @@ pub(crate) fn head_of(bytes: &[u8]) -> Head {
         mode: number(bytes, 0),
         rounds: number(bytes, 1),
         points: setpoints(bytes),
-        first: signed(bytes, 31),
+        first: signed(bytes, 34),
     }
 }
 

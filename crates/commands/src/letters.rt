@@ -39,6 +39,8 @@ pub fn letters_for(w: Word) -> u16
         Word::Undo => 0x4341,
         // DC
         Word::DayClose => 0x4443,
+        // BD
+        Word::Discharge => 0x4244,
     }
 }
 
@@ -85,6 +87,9 @@ pub(crate) fn letters_of(a: u8, b: u8) -> Letters
     }
     if pair == letters_for(Word::DayClose) {
         return Letters::One(Word::DayClose);
+    }
+    if pair == letters_for(Word::Discharge) {
+        return Letters::One(Word::Discharge);
     }
     if pair == SET_LETTERS {
         return Letters::Set;

@@ -87,6 +87,10 @@ pub fn tick(s: Settings, mut st: State, i: Input) -> Ticked
             closed = Closed::Day(day);
             st.book = daybook::closed_book(day);
         }
+        Request::Discharge => {
+            st.sequence = batch::sequence::discharge_sequence(st.sequence);
+            held = true;
+        }
     }
     // The weights again, with the zero and the tare that the request leaves.
     let served = weight::weigh(s, st.stability, st.weighing, raw, i.contact);
@@ -95,12 +99,20 @@ pub fn tick(s: Settings, mut st: State, i: Input) -> Ticked
     let stage = sequence.stage;
     let idle = batch::sequence::is_idle(stage);
     st.weighing = zero::tracking::tracked(s, idle, keyed, served, st.weighing);
-    // 6. Sequence, passed over after an accepted start, or a stop; in stage 00 it has nothing to do.
+    // 6. Sequence, passed over after an accepted start or discharge, or a stop; in stage 00 it has nothing to do.
     if !held {
         if !idle {
             let v = batch::comparison::compared(mode, served);
             let fit = weight::is_fit(served);
-            let a = batch::advance(batching, st.setpoints, st.sequence, !fit, served.stable, v);
+            let a = batch::advance(
+                batching,
+                st.setpoints,
+                st.sequence,
+                !fit,
+                served.stable,
+                v,
+                served.gross,
+            );
             if a.finished {
                 st.sequence = totals::booked_sequence(st.totals, v, a.sequence);
                 st.totals = totals::booked_totals(st.totals, v);

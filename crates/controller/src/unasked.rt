@@ -27,7 +27,15 @@ pub fn unasked_tick(s: Settings, mut st: State, count: i32, contact: bool) -> Ti
         let mode = batching.mode;
         let v = batch::comparison::compared(mode, x);
         let fit = weight::is_fit(x);
-        let a = batch::advance(s.batching, st.setpoints, st.sequence, !fit, x.stable, v);
+        let a = batch::advance(
+            s.batching,
+            st.setpoints,
+            st.sequence,
+            !fit,
+            x.stable,
+            v,
+            x.gross,
+        );
         if a.finished {
             st.sequence = totals::booked_sequence(st.totals, v, a.sequence);
             st.totals = totals::booked_totals(st.totals, v);

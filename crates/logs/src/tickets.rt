@@ -46,6 +46,9 @@ pub fn settings_a() -> Given
         board: 0,
         low: 0,
         high: 10_000,
+        dischargestart: 0,
+        dischargeend: 0,
+        dischargelimit: 6_000,
     }
 }
 

@@ -17,6 +17,7 @@ pub fn refusal_number(n: Refusal) -> u8
         Refusal::OutsideRules => 5,
         Refusal::SetpointRules => 6,
         Refusal::NothingToTakeBack => 7,
+        Refusal::LossInWeight => 9,
     }
 }
 
@@ -47,6 +48,9 @@ pub fn stage_number(stage: Stage) -> u8
         Stage::SmallFlow => 9,
         Stage::JudgeDelay(_) => 10,
         Stage::JudgeWait => 11,
+        Stage::DischargeStart(_) => 14,
+        Stage::Discharge => 15,
+        Stage::DischargeEnd(_) => 16,
     }
 }
 
@@ -61,5 +65,7 @@ pub fn error_number(e: SequenceError) -> u8
         SequenceError::FlowTime => 6,
         SequenceError::BadWeight => 9,
         SequenceError::NotBooked => 10,
+        SequenceError::DischargeStopped => 7,
+        SequenceError::DischargeTime => 8,
     }
 }

@@ -8,6 +8,8 @@ use lib.Dec.{leb, eqb}
 use lib.ListN.{length, getD}
 use lib.IntN.{ℤ}
 use Rattle.types.specs.declared.settings.Given.{Given}
+use Rattle.types.specs.declared.settings.Mode.{Mode}
+use Rattle.types.specs.declared.settings.Mode.the-variants as mode
 use Rattle.types.specs.declared.settings.Settings.{Settings}
 use Rattle.types.specs.declared.analog.Board.{Board}
 use Rattle.types.specs.declared.analog.Board.the-variants as board
@@ -32,14 +34,14 @@ use Rattle.types.specs.declared.machine.Blocked.{Blocked}
 use Rattle.outline.specs.Limits.{blockLimit, lineLimit}
 use Rattle.outline.specs.Settings.{settingsFit, openOf}
 use Rattle.outline.specs.Stages.{idleOf}
-use Rattle.outline.specs.Requests.{Row, rowsTo, firstOf, rulingOf, decidedOf}
+use Rattle.outline.specs.Requests.{Row, lossMode, rowsTo, firstOf, rulingOf, decidedOf}
 use Rattle.outline.specs.Tick.{settledOf, outputsOf, tickOf, unaskedOf, blockOf}
 use Rattle.outline.specs.Analog.{analogOf}
 use Rattle.outline.specs.Lines.{isCrLf, endAt, lineEndFrom, lineEndOf, lineOf, kindAt, kindOf, prefixLength, isPrefixed, bodyOf}
 use Rattle.outline.specs.Replies.{toldOf, askedOf, lineTickOf}
 use Rattle.outline.specs.EveryLine.{isLine, isFitting}
 use Rattle.outline.specs.Numbers.{openingNumber, refusalNumber, outcomeNumber, stageNumber, blockNumber, kindNumber, toldNumber, analogNumber, analogValues}
-use Rattle.outline.specs.Answers.{openingDue, blockDue, requestDue, tickDue, hasEnd, bytesBefore, kindDue, hasLine, bodyDue, lineDue, analogDue, analogValuesDue}
+use Rattle.outline.specs.Answers.{openingDue, blockDue, isLoss, requestDue, tickDue, hasEnd, bytesBefore, kindDue, hasLine, bodyDue, lineDue, analogDue, analogValuesDue}
 use Rattle.outline.proofs.LineOrder.{spoken-body, told-fits, answered-in-order}
 
 -- ---- an opening and a block
@@ -76,6 +78,13 @@ stage-idle (stage.SmallDisable t) = refl
 stage-idle stage.SmallFlow = refl
 stage-idle (stage.JudgeDelay t) = refl
 stage-idle stage.JudgeWait = refl
+stage-idle (stage.DischargeStart t) = refl
+stage-idle stage.Discharge = refl
+stage-idle (stage.DischargeEnd t) = refl
+
+mode-loss : (m : Mode) → lossMode m ≡ isLoss m
+mode-loss mode.Normal = refl
+mode-loss mode.Loss = refl
 
 -- the rows that a request can meet are those of the table whose column "To" names it
 row-number : (s : Settings) (st : State) (x : Weights) (r : Request)
@@ -92,6 +101,7 @@ row-number s st x request.Undo = refl
 row-number s st x request.ShowGross = refl
 row-number s st x request.ShowNet = refl
 row-number s st x request.DayClose = refl
+row-number s st x request.Discharge = simp (stage-idle (st .sequence .stage), mode-loss (s .batching .mode))
 
 ruling-number : (s : Settings) (st : State) (x : Weights) (r : Request) → outcomeNumber (rulingOf s st x r) ≡ requestDue s st x r
 unfolding rulingOf

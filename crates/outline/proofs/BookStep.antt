@@ -45,6 +45,7 @@ settled-book s st x request.Undo = simp (and-no, cond-same)
 settled-book s st x request.ShowGross = simp (and-no, cond-same)
 settled-book s st x request.ShowNet = simp (and-no, cond-same)
 settled-book s st x request.DayClose = simp (and-yes, close-done)
+settled-book s st x request.Discharge = simp (and-no, cond-same)
 
 -- steps 5 and 6 leave it
 ended-book : (s : Settings) (a : Settled) (x : Weights) → endedOf s a x .book ≡ a .state .book

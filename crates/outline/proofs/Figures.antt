@@ -3,7 +3,7 @@ use mathlib.Core.Path.{refl}
 use lib.Ieee.{ofInt, sub, mul, div, add, lt}
 use Rattle.whole.specs.Nearest.{nearestN, nearestOf}
 use Rattle.whole.specs.Limit.{limitTo}
-use Rattle.outline.specs.Settings.{countsFit, capacityFits, divisionFits, zeroRangeFits, trackingFits, stabilityFits, modeFits, delaysFit, flowFits, addressFits, analogFits, settingsFit, settingsOf, openOf}
+use Rattle.outline.specs.Settings.{countsFit, capacityFits, divisionFits, zeroRangeFits, trackingFits, stabilityFits, modeFits, delaysFit, flowFits, addressFits, analogFits, dischargeFits, settingsFit, settingsOf, openOf}
 use Rattle.outline.specs.Weight.{rawOf, weighOf, steadiedOf}
 use Rattle.outline.specs.DayBook.{limitOf, bookedOf, laterGood, bookOf, closedOf}
 use Rattle.outline.specs.Zero.{trackedOf}
@@ -16,7 +16,7 @@ use Rattle.outline.specs.Tick.{openState, enteredOf, weightsOf, settledO
 use Rattle.outline.specs.Figures.{Starred, Runs, Table}
 
 pub starred : Starred
-unfolding ofInt sub mul div add lt nearestN nearestOf limitTo countsFit capacityFits divisionFits zeroRangeFits trackingFits stabilityFits modeFits delaysFit flowFits addressFits analogFits settingsFit settingsOf openOf rawOf weighOf steadiedOf limitOf bookedOf laterGood bookOf closedOf trackedOf setpointsFit nearOf fullOf factsOf waitOf firstFlow afterStart judgedOf moveOf stopSequence landOf advanceOf gatesOf bookedTotals bookedSequence takenBack rulingOf grantedOf decidedOf betweenOf clipOf analogOf openState enteredOf weightsOf settledOf servedOf withTracking finishedOf steppedOf endedOf nextOf outputsOf tickOf countIn
+unfolding ofInt sub mul div add lt nearestN nearestOf limitTo countsFit capacityFits divisionFits zeroRangeFits trackingFits stabilityFits modeFits delaysFit flowFits addressFits analogFits dischargeFits settingsFit settingsOf openOf rawOf weighOf steadiedOf limitOf bookedOf laterGood bookOf closedOf trackedOf setpointsFit nearOf fullOf factsOf waitOf firstFlow afterStart judgedOf moveOf stopSequence landOf advanceOf gatesOf bookedTotals bookedSequence takenBack rulingOf grantedOf decidedOf betweenOf clipOf analogOf openState enteredOf weightsOf settledOf servedOf withTracking finishedOf steppedOf endedOf nextOf outputsOf tickOf countIn
 starred = record {
   s-100000 = refl;
   opened = refl;
@@ -43,5 +43,5 @@ unfolding nearestN nearestOf limitTo settingsOf rawOf weighOf steadiedOf limitOf
 runs = record { zero-after-falls = refl; gross-after-falls = refl; used-after-falls = refl; ticket = refl }
 
 pub table : Table
-unfolding countsFit capacityFits divisionFits zeroRangeFits trackingFits stabilityFits modeFits delaysFit flowFits addressFits analogFits settingsFit
+unfolding countsFit capacityFits divisionFits zeroRangeFits trackingFits stabilityFits modeFits delaysFit flowFits addressFits analogFits dischargeFits settingsFit
 table = record { ranges = refl; high-end-below = refl; equal-ends = refl; divisions = refl }

@@ -13,18 +13,18 @@ use Rattle.types.specs.declared.requests.Request.{Request}
 use Rattle.types.specs.declared.requests.Request.the-variants as request
 use Rattle.types.specs.declared.stages.Setpoints.{Setpoints}
 use Rattle.types.specs.declared.stages.Stage.{Stage}
-use Rattle.types.specs.declared.stages.Stage.the-variants.{Idle, StartDelay, LargeDisable, LargeFlow, MediumDisable, MediumFlow, SmallDisable, SmallFlow, JudgeDelay, JudgeWait}
+use Rattle.types.specs.declared.stages.Stage.the-variants.{Idle, StartDelay, LargeDisable, LargeFlow, MediumDisable, MediumFlow, SmallDisable, SmallFlow, JudgeDelay, JudgeWait, DischargeStart, Discharge, DischargeEnd}
 use Rattle.types.specs.declared.stages.SequenceError.the-variants as error
 use Rattle.types.specs.declared.stages.Sequence.{Sequence}
 use Rattle.types.specs.declared.stages.Facts.{Facts}
 use Rattle.types.specs.declared.stages.Timing.{Timing}
 use Rattle.types.specs.declared.stages.Timing.the-variants as timing
 use Rattle.types.specs.declared.stages.Move.{Move}
-use Rattle.types.specs.declared.stages.Move.the-variants.{To, Fail, Finish}
+use Rattle.types.specs.declared.stages.Move.the-variants.{To, Fail, Finish, Emptied}
 use Rattle.types.specs.declared.stages.Advanced.{Advanced}
 use Rattle.types.specs.declared.machine.State.{State}
 use Rattle.types.specs.declared.machine.Input.{Input}
-use Rattle.outline.specs.Stages.{comparedOf, factsOf, waitOf, timed, until, firstFlow, afterStart, moveOf, idleOf, flowingOf, lateOf, landOf, advanceOf}
+use Rattle.outline.specs.Stages.{comparedOf, factsOf, waitOf, timed, until, firstFlow, afterStart, moveOf, idleOf, flowingOf, emptyingOf, lateOf, slowOf, landOf, advanceOf}
 use Rattle.outline.specs.Requests.{rulingOf, doneOf, grantedOf, decidedOf}
 use Rattle.outline.specs.Tick.{enteredOf, settledOf, servedOf}
 use Rattle.outline.specs.Numbers.{stageNumber}
@@ -47,6 +47,7 @@ granted-held st x request.Undo = refl
 granted-held st x request.ShowGross = refl
 granted-held st x request.ShowNet = refl
 granted-held st x request.DayClose = refl
+granted-held st x request.Discharge = refl
 
 granted-sequence : (st : State) (x : Weights) (r : Request) → requestKind r .skips ≡ false
     → grantedOf st x r .state .sequence ≡ st .sequence
@@ -63,6 +64,7 @@ granted-sequence st x request.Undo e = refl
 granted-sequence st x request.ShowGross e = refl
 granted-sequence st x request.ShowNet e = refl
 granted-sequence st x request.DayClose e = refl
+granted-sequence st x request.Discharge e = absurd (clash refl e)
 
 settled-held : (s : Settings) (st : State) (i : Input) → settledOf s st i .held ≡ passedOver s st i
 unfolding settledOf decidedOf
@@ -88,12 +90,14 @@ abbrev finishOf : Move → Bool
 finishOf (To stage) = false
 finishOf (Fail e) = false
 finishOf (Finish j) = true
+finishOf Emptied = false
 
 landed : (q : Sequence) (m : Move) → landOf q m .finished ≡ finishOf m
 unfolding landOf
 landed q (To stage) = refl
 landed q (Fail e) = refl
 landed q (Finish j) = refl
+landed q Emptied = refl
 
 after-timed : (t : Timing) (stay : ℕ → Stage) (m : Move) → finishOf m ≡ false → finishOf (timed t stay m) ≡ false
 after-timed timing.Over stay m e = e
@@ -125,38 +129,46 @@ moved b p (SmallDisable t) f = after-timed (waitOf (b .small) t) _ _ refl
 moved b p SmallFlow f = after-until (f .small) _ _ ∙ and-no (f .small)
 moved b p (JudgeDelay t) f = after-timed (waitOf (b .judge) t) _ _ refl
 moved b p JudgeWait f = after-until (f .stable) _ _ ∙ and-yes (f .stable)
+moved b p (DischargeStart t) f = after-timed (waitOf (b .discharge .start) t) _ _ refl
+moved b p Discharge f = after-until (f .empty) _ _ ∙ and-no (f .empty)
+moved b p (DischargeEnd t) f = after-timed (waitOf (b .discharge .end) t) _ _ refl
 
 -- in a chain of tests the last alone finishes one
-chained : (idle unfit late : Bool) (q q₉ q₆ : Sequence) (a : Advanced) →
+chained : (idle unfit late slow : Bool) (q q₉ q₆ q₈ : Sequence) (a : Advanced) →
     cond idle (record { sequence = q; finished = false })
-    (cond unfit (record { sequence = q₉; finished = false }) (cond late (record { sequence = q₆; finished = false }) a)) .finished
-    ≡ not idle && not unfit && not late && a .finished
-chained true unfit late q q₉ q₆ a = refl
-chained false true late q q₉ q₆ a = refl
-chained false false true q q₉ q₆ a = refl
-chained false false false q q₉ q₆ a = refl
+    (cond unfit (record { sequence = q₉; finished = false })
+    (cond late (record { sequence = q₆; finished = false }) (cond slow (record { sequence = q₈; finished = false }) a))) .finished
+    ≡ not idle && not unfit && not late && not slow && a .finished
+chained true unfit late slow q q₉ q₆ q₈ a = refl
+chained false true late slow q q₉ q₆ q₈ a = refl
+chained false false true slow q q₉ q₆ q₈ a = refl
+chained false false false true q q₉ q₆ q₈ a = refl
+chained false false false false q q₉ q₆ q₈ a = refl
 
--- in 11 the flow clock runs, and 11 is not 00
-in-eleven : (stage : Stage) (unfit late stable : Bool) →
-    not (idleOf stage) && not unfit && not (flowingOf stage && late) && (eqb (stageNumber stage) 11 && stable)
+-- in 11 the flow clock runs and no other, and 11 is not 00
+in-eleven : (stage : Stage) (unfit late slow stable : Bool) →
+    not (idleOf stage) && not unfit && not (flowingOf stage && late) && not (emptyingOf stage && slow) && (eqb (stageNumber stage) 11 && stable)
     ≡ eqb (stageNumber stage) 11 && not unfit && not late && stable
-in-eleven Idle unfit late stable = refl
-in-eleven (StartDelay t) unfit late stable = simp and-no
-in-eleven (LargeDisable t) unfit late stable = simp and-no
-in-eleven LargeFlow unfit late stable = simp and-no
-in-eleven (MediumDisable t) unfit late stable = simp and-no
-in-eleven MediumFlow unfit late stable = simp and-no
-in-eleven (SmallDisable t) unfit late stable = simp and-no
-in-eleven SmallFlow unfit late stable = simp and-no
-in-eleven (JudgeDelay t) unfit late stable = simp and-no
-in-eleven JudgeWait unfit late stable = refl
+in-eleven Idle unfit late slow stable = refl
+in-eleven (StartDelay t) unfit late slow stable = simp and-no
+in-eleven (LargeDisable t) unfit late slow stable = simp and-no
+in-eleven LargeFlow unfit late slow stable = simp and-no
+in-eleven (MediumDisable t) unfit late slow stable = simp and-no
+in-eleven MediumFlow unfit late slow stable = simp and-no
+in-eleven (SmallDisable t) unfit late slow stable = simp and-no
+in-eleven SmallFlow unfit late slow stable = simp and-no
+in-eleven (JudgeDelay t) unfit late slow stable = simp and-no
+in-eleven JudgeWait unfit late slow stable = simp and-yes
+in-eleven (DischargeStart t) unfit late slow stable = simp and-no
+in-eleven Discharge unfit late slow stable = simp and-no
+in-eleven (DischargeEnd t) unfit late slow stable = simp and-no
 
 advanced : (b : Batching) (p : Setpoints) (q : Sequence) (f : Facts)
     → advanceOf b p q f .finished ≡ eqb (stageNumber (q .stage)) 11 && not (f .unfit) && not (ltb (b .flow) (suc (q .clock))) && f .stable
 unfolding advanceOf
 advanced b p q f =
-    chained (idleOf (q .stage)) (f .unfit) (lateOf b q) _ _ _ (landOf q (moveOf b p (q .stage) f))
-    ∙ rw (landed, moved) (in-eleven (q .stage) (f .unfit) (ltb (b .flow) (suc (q .clock))) (f .stable))
+    chained (idleOf (q .stage)) (f .unfit) (lateOf b q) (slowOf b q) _ _ _ _ (landOf q (moveOf b p (q .stage) f))
+    ∙ rw (landed, moved) (in-eleven (q .stage) (f .unfit) (ltb (b .flow) (suc (q .clock))) (ltb (b .discharge .limit) (suc (q .clock))) (f .stable))
 
 -- ---- the whole tick
 fit-and : (t good overload : Bool) → t && not (not (good && not overload)) ≡ t && good && not overload

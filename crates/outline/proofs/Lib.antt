@@ -39,6 +39,7 @@ pub mod TotalStep
 pub mod TotalRun
 pub mod QuietStep
 pub mod GatesRun
+pub mod DischargeLaw
 -- blocks, lines, setpoints read back
 pub mod RunForms
 pub mod DigitsBack

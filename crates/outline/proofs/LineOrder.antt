@@ -34,8 +34,9 @@ refusal-answer refusal.Unstable = refl
 refusal-answer refusal.OutsideRules = refl
 refusal-answer refusal.SetpointRules = refl
 refusal-answer refusal.NothingToTakeBack = refl
+refusal-answer refusal.LossInWeight = refl
 
-refusal-small : (n : Refusal) → refusalNumber n ≤ 7
+refusal-small : (n : Refusal) → refusalNumber n ≤ 9
 refusal-small refusal.BadTick = omega arith
 refusal-small refusal.Overload = omega arith
 refusal-small refusal.NotIdle = omega arith
@@ -43,6 +44,7 @@ refusal-small refusal.Unstable = omega arith
 refusal-small refusal.OutsideRules = omega arith
 refusal-small refusal.SetpointRules = omega arith
 refusal-small refusal.NothingToTakeBack = omega arith
+refusal-small refusal.LossInWeight = omega arith
 
 told-answer : (c : Command) (o : Outcome) → isAnswer (toldNumber (toldOf c o)) ≡ true
 unfolding toldOf

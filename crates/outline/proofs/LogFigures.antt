@@ -2,7 +2,7 @@
 use mathlib.Core.Path.{refl}
 use Rattle.whole.specs.Nearest.{nearestN, nearestOf}
 use Rattle.whole.specs.Limit.{limitTo}
-use Rattle.outline.specs.Settings.{countsFit, capacityFits, divisionFits, zeroRangeFits, trackingFits, stabilityFits, modeFits, delaysFit, flowFits, addressFits, analogFits, settingsFit, settingsOf, openOf}
+use Rattle.outline.specs.Settings.{countsFit, capacityFits, divisionFits, zeroRangeFits, trackingFits, stabilityFits, modeFits, delaysFit, flowFits, addressFits, analogFits, dischargeFits, settingsFit, settingsOf, openOf}
 use Rattle.outline.specs.Weight.{rawOf, weighOf, steadiedOf}
 use Rattle.outline.specs.DayBook.{limitOf, bookedOf, laterGood, bookOf, closedOf}
 use Rattle.outline.specs.Zero.{trackedOf}

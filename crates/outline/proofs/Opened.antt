@@ -13,7 +13,7 @@ use Rattle.types.specs.declared.settings.Calibration.{Calibration}
 use Rattle.types.specs.declared.settings.Settings.{Settings}
 use Rattle.types.specs.declared.settings.Opening.the-variants as opening
 use Rattle.outline.specs.Limits.{countLimit, capacityLimit}
-use Rattle.outline.specs.Settings.{fromTo, within, countsFit, capacityFits, divisionFits, zeroRangeFits, trackingFits, stabilityFits, modeFits, delaysFit, flowFits, addressFits, analogFits, settingsFit, settingsOf, openOf}
+use Rattle.outline.specs.Settings.{fromTo, within, countsFit, capacityFits, divisionFits, zeroRangeFits, trackingFits, stabilityFits, modeFits, delaysFit, flowFits, addressFits, analogFits, dischargeFits, settingsFit, settingsOf, openOf}
 use Rattle.outline.specs.Owed.{Accepted}
 use Rattle.whole.specs.Chains.{links}
 
@@ -58,13 +58,14 @@ pub record Rows (g : Given) : Type 0 where
   pub flow : flowFits g ≡ true
   pub address : addressFits g ≡ true
   pub analog : analogFits g ≡ true
+  pub discharge : dischargeFits g ≡ true
 
 pub rows : (g : Given) → settingsFit g ≡ true → Rows g
 unfolding settingsFit
 rows g h =
     let r =
     links (countsFit g)
-    (capacityFits g ∷ divisionFits g ∷ zeroRangeFits g ∷ trackingFits g ∷ stabilityFits g ∷ modeFits g ∷ delaysFit g ∷ flowFits g ∷ addressFits g ∷ analogFits g ∷ [])
+    (capacityFits g ∷ divisionFits g ∷ zeroRangeFits g ∷ trackingFits g ∷ stabilityFits g ∷ modeFits g ∷ delaysFit g ∷ flowFits g ∷ addressFits g ∷ analogFits g ∷ dischargeFits g ∷ [])
     h in
     record {
       counts = r .0;
@@ -78,6 +79,7 @@ rows g h =
       flow = r .1 .1 .1 .1 .1 .1 .1 .1 .0;
       address = r .1 .1 .1 .1 .1 .1 .1 .1 .1 .0;
       analog = r .1 .1 .1 .1 .1 .1 .1 .1 .1 .1 .0;
+      discharge = r .1 .1 .1 .1 .1 .1 .1 .1 .1 .1 .1 .0;
     }
 
 pub calibrated : (s : Settings) → Accepted s → Calibrated (s .calibration)

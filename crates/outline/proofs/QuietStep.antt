@@ -10,19 +10,19 @@ use Rattle.types.specs.declared.requests.Request.{Request}
 use Rattle.types.specs.declared.requests.Request.the-variants as request
 use Rattle.types.specs.declared.stages.Setpoints.{Setpoints}
 use Rattle.types.specs.declared.stages.Stage.{Stage}
-use Rattle.types.specs.declared.stages.Stage.the-variants.{Idle, StartDelay, LargeDisable, LargeFlow, MediumDisable, MediumFlow, SmallDisable, SmallFlow, JudgeDelay, JudgeWait}
+use Rattle.types.specs.declared.stages.Stage.the-variants.{Idle, StartDelay, LargeDisable, LargeFlow, MediumDisable, MediumFlow, SmallDisable, SmallFlow, JudgeDelay, JudgeWait, DischargeStart, Discharge, DischargeEnd}
 use Rattle.types.specs.declared.stages.SequenceError.{SequenceError}
 use Rattle.types.specs.declared.stages.SequenceError.the-variants as error
 use Rattle.types.specs.declared.stages.Sequence.{Sequence}
 use Rattle.types.specs.declared.stages.Facts.{Facts}
 use Rattle.types.specs.declared.stages.Move.{Move}
-use Rattle.types.specs.declared.stages.Move.the-variants.{To, Fail, Finish}
+use Rattle.types.specs.declared.stages.Move.the-variants.{To, Fail, Finish, Emptied}
 use Rattle.types.specs.declared.stages.Advanced.{Advanced}
 use Rattle.types.specs.declared.stages.Totals.{Totals}
 use Rattle.types.specs.declared.machine.State.{State}
 use Rattle.types.specs.declared.machine.Input.{Input}
 use Rattle.types.specs.declared.machine.Settled.{Settled}
-use Rattle.outline.specs.Stages.{factsOf, moveOf, idleOf, lateOf, failedOf, stopSequence, landOf, advanceOf, shut, gatesOf}
+use Rattle.outline.specs.Stages.{factsOf, moveOf, idleOf, lateOf, slowOf, failedOf, stopError, stopSequence, landOf, advanceOf, shut, gatesOf}
 use Rattle.outline.specs.Totals.{bookable, bookedSequence}
 use Rattle.outline.specs.Requests.{rulingOf, doneOf, grantedOf, decidedOf}
 use Rattle.outline.specs.Tick.{enteredOf, settledOf, servedOf, withTracking, finishedOf, steppedOf, endedOf, nextOf, outputsOf, tickOf}
@@ -36,6 +36,8 @@ noError error.Stopped = false
 noError error.FlowTime = false
 noError error.BadWeight = false
 noError error.NotBooked = false
+noError error.DischargeStopped = false
+noError error.DischargeTime = false
 
 -- no error, or stage 00
 abbrev pub quietOf : Sequence → Bool
@@ -60,13 +62,14 @@ granted-quiet st x request.Zero h = h
 granted-quiet st x request.Tare h = h
 granted-quiet st x request.TareClear h = h
 granted-quiet st x request.Start h = refl
-granted-quiet st x request.Stop h = cond-quiet (idleOf (st .sequence .stage)) _ _ h (failed-quiet (st .sequence) error.Stopped)
+granted-quiet st x request.Stop h = cond-quiet (idleOf (st .sequence .stage)) _ _ h (failed-quiet (st .sequence) (stopError (st .sequence .stage)))
 granted-quiet st x (request.Set p) h = h
 granted-quiet st x request.TotalClear h = h
 granted-quiet st x request.Undo h = h
 granted-quiet st x request.ShowGross h = h
 granted-quiet st x request.ShowNet h = h
 granted-quiet st x request.DayClose h = h
+granted-quiet st x request.Discharge h = refl
 
 quiet-settled : (s : Settings) (st : State) (x : Weights) (r : Request) → quietOf (st .sequence) ≡ true → quietOf (decidedOf s st x r .state .sequence) ≡ true
 unfolding decidedOf
@@ -86,20 +89,23 @@ unfolding landOf
 land-advances q (To stage) h = unfinished _ (rw h)
 land-advances q (Fail e) h = unfinished _ (failed-quiet q e)
 land-advances q (Finish j) h = record { quiet = rw h; finish = λ k. refl }
+land-advances q Emptied h = unfinished _ (rw h)
 
 advances : (b : Batching) (p : Setpoints) (q : Sequence) (f : Facts) → quietOf q ≡ true → Advances (advanceOf b p q f)
 unfolding advanceOf
-advances b p q f h = go (idleOf (q .stage)) (f .unfit) (lateOf b q) h
+advances b p q f h = go (idleOf (q .stage)) (f .unfit) (lateOf b q) (slowOf b q) h
   where
-    go : (idle unfit late : Bool) → noError (q .error) || idle ≡ true →
+    go : (idle unfit late slow : Bool) → noError (q .error) || idle ≡ true →
         Advances
         (cond idle (record { sequence = q; finished = false })
         (cond unfit (record { sequence = failedOf q error.BadWeight; finished = false })
-        (cond late (record { sequence = failedOf q error.FlowTime; finished = false }) (landOf q (moveOf b p (q .stage) f)))))
-    go true unfit late k = unfinished q h
-    go false true late k = unfinished _ (failed-quiet q error.BadWeight)
-    go false false true k = unfinished _ (failed-quiet q error.FlowTime)
-    go false false false k = land-advances q (moveOf b p (q .stage) f) (sym (or-false (noError (q .error))) ∙ k)
+        (cond late (record { sequence = failedOf q error.FlowTime; finished = false })
+        (cond slow (record { sequence = failedOf q error.DischargeTime; finished = false }) (landOf q (moveOf b p (q .stage) f))))))
+    go true unfit late slow k = unfinished q h
+    go false true late slow k = unfinished _ (failed-quiet q error.BadWeight)
+    go false false true slow k = unfinished _ (failed-quiet q error.FlowTime)
+    go false false false true k = unfinished _ (failed-quiet q error.DischargeTime)
+    go false false false false k = land-advances q (moveOf b p (q .stage) f) (sym (or-false (noError (q .error))) ∙ k)
 
 -- error 10 stands in stage 00
 quiet-finish : (t : Totals) (v : ℤ) (a : Advanced) → Advances a → quietOf (cond (a .finished) (bookedSequence t v (a .sequence)) (a .sequence)) ≡ true
@@ -136,6 +142,9 @@ idle-shut p (SmallDisable t) h = absurd (subst T (sym h) tt)
 idle-shut p SmallFlow h = absurd (subst T (sym h) tt)
 idle-shut p (JudgeDelay t) h = refl
 idle-shut p JudgeWait h = refl
+idle-shut p (DischargeStart t) h = refl
+idle-shut p Discharge h = absurd (subst T (sym h) tt)
+idle-shut p (DischargeEnd t) h = absurd (subst T (sym h) tt)
 
 error-shut : (p : Setpoints) (g : Stage) (e : SequenceError) → noError e || idleOf g ≡ true → (e ≡ error.None → ⊥) → gatesOf p g ≡ shut
 error-shut p g error.None h n = absurd (n refl)
@@ -145,6 +154,8 @@ error-shut p g error.Stopped h n = idle-shut p g h
 error-shut p g error.FlowTime h n = idle-shut p g h
 error-shut p g error.BadWeight h n = idle-shut p g h
 error-shut p g error.NotBooked h n = idle-shut p g h
+error-shut p g error.DischargeStopped h n = idle-shut p g h
+error-shut p g error.DischargeTime h n = idle-shut p g h
 
 pub quiet-gates : (s : Settings) (st : State) (i : Input) → quietOf (nextOf s st i .sequence) ≡ true →
     let a = tickOf s st i .answer in

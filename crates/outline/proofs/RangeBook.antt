@@ -122,6 +122,7 @@ granted-book st x request.Undo h = h
 granted-book st x request.ShowGross h = h
 granted-book st x request.ShowNet h = h
 granted-book st x request.DayClose h = closed-in (st .book) h
+granted-book st x request.Discharge h = h
 
 settled-book : (s : Settings) (st : State) (x : Weights) (r : Request) → BookRange (st .book) → BookRange (decidedOf s st x r .state .book)
 unfolding decidedOf

@@ -9,6 +9,7 @@ use Rattle.outline.specs.Tick.{openState, nextOf}
 use Rattle.outline.specs.Run.{History, start, _▷_, runOf}
 use Rattle.outline.specs.Ranges.{StateRange}
 use Rattle.outline.specs.StaysTrue.{InRange}
+use Rattle.outline.proofs.Parts.{clash}
 use Rattle.outline.proofs.RangeBook.{tick-book}
 use Rattle.outline.proofs.RangeStability.{tick-stability}
 use Rattle.outline.proofs.RangeWeighing.{after-request, tick-weighing, tick-weights}
@@ -39,7 +40,15 @@ open-in s = record {
     tare-most = omega arith;
   };
   setpoints = open-fits (s .batching .mode);
-  sequence = record { timer = tt; clock = omega arith; unclocked = λ e. refl; no-error = λ e. refl; no-judgement = λ e. refl };
+  sequence = record {
+    timer = tt;
+    flow-clock = λ e. omega arith;
+    discharge-clock = λ e. omega arith;
+    unclocked = λ e. refl;
+    no-error = λ e. refl;
+    no-judgement = λ e. refl;
+    normal = λ e. absurd (clash e refl);
+  };
   totals = clear-in;
 }
 

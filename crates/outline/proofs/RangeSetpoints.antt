@@ -37,6 +37,7 @@ module _ (s : Settings) (st : State) (x : Weights) (h : setpointsFit (s .batchin
   granted-fits request.ShowGross e = h
   granted-fits request.ShowNet e = h
   granted-fits request.DayClose e = h
+  granted-fits request.Discharge e = h
 
   settled-fits : (r : Request) → setpointsFit (s .batching .mode) (decidedOf s st x r .state .setpoints) ≡ true
   unfolding decidedOf

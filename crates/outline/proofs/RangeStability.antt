@@ -46,6 +46,7 @@ granted-stability st x request.Undo = refl
 granted-stability st x request.ShowGross = refl
 granted-stability st x request.ShowNet = refl
 granted-stability st x request.DayClose = refl
+granted-stability st x request.Discharge = refl
 
 settled-stability : (s : Settings) (st : State) (x : Weights) (r : Request) → decidedOf s st x r .state .stability ≡ st .stability
 unfolding decidedOf

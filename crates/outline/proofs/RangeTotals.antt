@@ -50,6 +50,7 @@ granted-totals st x request.Undo h = less-in (st .totals) (st .totals .back) h
 granted-totals st x request.ShowGross h = h
 granted-totals st x request.ShowNet h = h
 granted-totals st x request.DayClose h = h
+granted-totals st x request.Discharge h = h
 
 settled-totals : (s : Settings) (st : State) (x : Weights) (r : Request) → TotalsRange (st .totals) → TotalsRange (decidedOf s st x r .state .totals)
 unfolding decidedOf

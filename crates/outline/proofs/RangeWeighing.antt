@@ -123,6 +123,7 @@ module _ (s : Settings) (st : State) (x : Weights) (weighed : Weighed (s .range)
   granted-weighing request.ShowGross e = h
   granted-weighing request.ShowNet e = h
   granted-weighing request.DayClose e = h
+  granted-weighing request.Discharge e = h
 
   settled-weighing : (r : Request) → In s (decidedOf s st x r .state .weighing)
   unfolding decidedOf

@@ -3,7 +3,7 @@ use mathlib.Core.Path.{refl}
 use lib.Ieee.{ofInt, sub, mul, div, add, lt}
 use Rattle.whole.specs.Nearest.{nearestN, nearestOf}
 use Rattle.whole.specs.Limit.{limitTo}
-use Rattle.outline.specs.Settings.{countsFit, capacityFits, divisionFits, zeroRangeFits, trackingFits, stabilityFits, modeFits, delaysFit, flowFits, addressFits, analogFits, settingsFit, settingsOf, openOf}
+use Rattle.outline.specs.Settings.{countsFit, capacityFits, divisionFits, zeroRangeFits, trackingFits, stabilityFits, modeFits, delaysFit, flowFits, addressFits, analogFits, dischargeFits, settingsFit, settingsOf, openOf}
 use Rattle.outline.specs.Weight.{rawOf, weighOf, steadiedOf}
 use Rattle.outline.specs.DayBook.{limitOf, bookedOf, laterGood, bookOf, closedOf}
 use Rattle.outline.specs.Zero.{trackedOf}
@@ -19,7 +19,7 @@ use Rattle.outline.specs.Replies.{digitsOf, weightText, totalText, point
 use Rattle.outline.specs.Rules.{Weighed, Refused, Staged, Booked}
 
 pub weighed : Weighed
-unfolding ofInt sub mul div add lt nearestN nearestOf limitTo countsFit capacityFits divisionFits zeroRangeFits trackingFits stabilityFits modeFits delaysFit flowFits addressFits analogFits settingsFit settingsOf openOf rawOf weighOf steadiedOf limitOf bookedOf laterGood bookOf closedOf trackedOf setpointsFit nearOf fullOf factsOf waitOf firstFlow afterStart judgedOf moveOf stopSequence landOf advanceOf gatesOf bookedTotals bookedSequence takenBack rulingOf grantedOf decidedOf betweenOf clipOf analogOf openState enteredOf weightsOf settledOf servedOf withTracking finishedOf steppedOf endedOf nextOf outputsOf tickOf countIn lineEndOf lineOf kindOf prefixLength isPrefixed lettersOf fieldOf fieldsOf decodeOf bodyOf spokenOf commandOf requestOf digitsOf weightText totalText pointsText refusedText framed replyText shownOf replyDue toldOf dueText lineTickOf writtenOf replyBuffer blockOf
+unfolding ofInt sub mul div add lt nearestN nearestOf limitTo countsFit capacityFits divisionFits zeroRangeFits trackingFits stabilityFits modeFits delaysFit flowFits addressFits analogFits dischargeFits settingsFit settingsOf openOf rawOf weighOf steadiedOf limitOf bookedOf laterGood bookOf closedOf trackedOf setpointsFit nearOf fullOf factsOf waitOf firstFlow afterStart judgedOf moveOf stopSequence landOf advanceOf gatesOf bookedTotals bookedSequence takenBack rulingOf grantedOf decidedOf betweenOf clipOf analogOf openState enteredOf weightsOf settledOf servedOf withTracking finishedOf steppedOf endedOf nextOf outputsOf tickOf countIn lineEndOf lineOf kindOf prefixLength isPrefixed lettersOf fieldOf fieldsOf decodeOf bodyOf spokenOf commandOf requestOf digitsOf weightText totalText pointsText refusedText framed replyText shownOf replyDue toldOf dueText lineTickOf writtenOf replyBuffer blockOf
 weighed = record {
   raw-up = refl;
   raw-down = refl;
@@ -38,7 +38,7 @@ weighed = record {
 }
 
 pub refused : Refused
-unfolding ofInt sub mul div add lt nearestN nearestOf limitTo countsFit capacityFits divisionFits zeroRangeFits trackingFits stabilityFits modeFits delaysFit flowFits addressFits analogFits settingsFit settingsOf openOf rawOf weighOf steadiedOf limitOf bookedOf laterGood bookOf closedOf trackedOf setpointsFit nearOf fullOf factsOf waitOf firstFlow afterStart judgedOf moveOf stopSequence landOf advanceOf gatesOf bookedTotals bookedSequence takenBack rulingOf grantedOf decidedOf betweenOf clipOf analogOf openState enteredOf weightsOf settledOf servedOf withTracking finishedOf steppedOf endedOf nextOf outputsOf tickOf countIn lineEndOf lineOf kindOf prefixLength isPrefixed lettersOf fieldOf fieldsOf decodeOf bodyOf spokenOf commandOf requestOf digitsOf weightText totalText pointsText refusedText framed replyText shownOf replyDue toldOf dueText lineTickOf writtenOf replyBuffer blockOf
+unfolding ofInt sub mul div add lt nearestN nearestOf limitTo countsFit capacityFits divisionFits zeroRangeFits trackingFits stabilityFits modeFits delaysFit flowFits addressFits analogFits dischargeFits settingsFit settingsOf openOf rawOf weighOf steadiedOf limitOf bookedOf laterGood bookOf closedOf trackedOf setpointsFit nearOf fullOf factsOf waitOf firstFlow afterStart judgedOf moveOf stopSequence landOf advanceOf gatesOf bookedTotals bookedSequence takenBack rulingOf grantedOf decidedOf betweenOf clipOf analogOf openState enteredOf weightsOf settledOf servedOf withTracking finishedOf steppedOf endedOf nextOf outputsOf tickOf countIn lineEndOf lineOf kindOf prefixLength isPrefixed lettersOf fieldOf fieldsOf decodeOf bodyOf spokenOf commandOf requestOf digitsOf weightText totalText pointsText refusedText framed replyText shownOf replyDue toldOf dueText lineTickOf writtenOf replyBuffer blockOf
 refused = record {
   bad = refl;
   overload = refl;
@@ -61,7 +61,7 @@ refused = record {
 }
 
 pub staged : Staged
-unfolding ofInt sub mul div add lt nearestN nearestOf limitTo countsFit capacityFits divisionFits zeroRangeFits trackingFits stabilityFits modeFits delaysFit flowFits addressFits analogFits settingsFit settingsOf openOf rawOf weighOf steadiedOf limitOf bookedOf laterGood bookOf closedOf trackedOf setpointsFit nearOf fullOf factsOf waitOf firstFlow afterStart judgedOf moveOf stopSequence landOf advanceOf gatesOf bookedTotals bookedSequence takenBack rulingOf grantedOf decidedOf betweenOf clipOf analogOf openState enteredOf weightsOf settledOf servedOf withTracking finishedOf steppedOf endedOf nextOf outputsOf tickOf countIn lineEndOf lineOf kindOf prefixLength isPrefixed lettersOf fieldOf fieldsOf decodeOf bodyOf spokenOf commandOf requestOf digitsOf weightText totalText pointsText refusedText framed replyText shownOf replyDue toldOf dueText lineTickOf writtenOf replyBuffer blockOf
+unfolding ofInt sub mul div add lt nearestN nearestOf limitTo countsFit capacityFits divisionFits zeroRangeFits trackingFits stabilityFits modeFits delaysFit flowFits addressFits analogFits dischargeFits settingsFit settingsOf openOf rawOf weighOf steadiedOf limitOf bookedOf laterGood bookOf closedOf trackedOf setpointsFit nearOf fullOf factsOf waitOf firstFlow afterStart judgedOf moveOf stopSequence landOf advanceOf gatesOf bookedTotals bookedSequence takenBack rulingOf grantedOf decidedOf betweenOf clipOf analogOf openState enteredOf weightsOf settledOf servedOf withTracking finishedOf steppedOf endedOf nextOf outputsOf tickOf countIn lineEndOf lineOf kindOf prefixLength isPrefixed lettersOf fieldOf fieldsOf decodeOf bodyOf spokenOf commandOf requestOf digitsOf weightText totalText pointsText refusedText framed replyText shownOf replyDue toldOf dueText lineTickOf writtenOf replyBuffer blockOf
 staged = record {
   ok-at-over = refl;
   over = refl;
@@ -86,7 +86,7 @@ staged = record {
 }
 
 pub booked : Booked
-unfolding ofInt sub mul div add lt nearestN nearestOf limitTo countsFit capacityFits divisionFits zeroRangeFits trackingFits stabilityFits modeFits delaysFit flowFits addressFits analogFits settingsFit settingsOf openOf rawOf weighOf steadiedOf limitOf bookedOf laterGood bookOf closedOf trackedOf setpointsFit nearOf fullOf factsOf waitOf firstFlow afterStart judgedOf moveOf stopSequence landOf advanceOf gatesOf bookedTotals bookedSequence takenBack rulingOf grantedOf decidedOf betweenOf clipOf analogOf openState enteredOf weightsOf settledOf servedOf withTracking finishedOf steppedOf endedOf nextOf outputsOf tickOf countIn lineEndOf lineOf kindOf prefixLength isPrefixed lettersOf fieldOf fieldsOf decodeOf bodyOf spokenOf commandOf requestOf digitsOf weightText totalText pointsText refusedText framed replyText shownOf replyDue toldOf dueText lineTickOf writtenOf replyBuffer blockOf
+unfolding ofInt sub mul div add lt nearestN nearestOf limitTo countsFit capacityFits divisionFits zeroRangeFits trackingFits stabilityFits modeFits delaysFit flowFits addressFits analogFits dischargeFits settingsFit settingsOf openOf rawOf weighOf steadiedOf limitOf bookedOf laterGood bookOf closedOf trackedOf setpointsFit nearOf fullOf factsOf waitOf firstFlow afterStart judgedOf moveOf stopSequence landOf advanceOf gatesOf bookedTotals bookedSequence takenBack rulingOf grantedOf decidedOf betweenOf clipOf analogOf openState enteredOf weightsOf settledOf servedOf withTracking finishedOf steppedOf endedOf nextOf outputsOf tickOf countIn lineEndOf lineOf kindOf prefixLength isPrefixed lettersOf fieldOf fieldsOf decodeOf bodyOf spokenOf commandOf requestOf digitsOf weightText totalText pointsText refusedText framed replyText shownOf replyDue toldOf dueText lineTickOf writtenOf replyBuffer blockOf
 booked = record {
   first = refl;
   last-booked = refl;

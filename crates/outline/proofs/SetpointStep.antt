@@ -31,6 +31,7 @@ granted-setpoints st x request.Undo e = refl
 granted-setpoints st x request.ShowGross e = refl
 granted-setpoints st x request.ShowNet e = refl
 granted-setpoints st x request.DayClose e = refl
+granted-setpoints st x request.Discharge e = refl
 
 -- a write that is refused is none
 unless-written : (done : Bool) (st : State) (x : Weights) (r : Request) → requestKind r .writes && done ≡ false

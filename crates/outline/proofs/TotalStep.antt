@@ -28,6 +28,7 @@ use Rattle.outline.specs.Requests.{rulingOf, doneOf, grantedOf, decidedO
 use Rattle.outline.specs.Tick.{enteredOf, settledOf, servedOf, withTracking, finishedOf, steppedOf, endedOf, nextOf}
 use Rattle.outline.specs.Kinds.{Asked, nothing, undo, clear, requestKind}
 use Rattle.outline.specs.Ledger.{eventOf, Ledger, sumN, totalOf, countOf, takeBack, askStep, canBook, finishStep}
+use Rattle.outline.specs.StaysTrue.{totalsAsked}
 use Rattle.whole.specs.Chains.{links}
 use Rattle.outline.proofs.Parts.{cond-same, clash}
 use Rattle.outline.proofs.FinishStep.{tick-finish, tick-weight}
@@ -47,11 +48,6 @@ pub record Totalled (t : Totals) (l : Ledger) : Type 0 where
   pub count-limit : t .count ≤ batchLimit
 
 -- ---- step 4: an undo and a clear alone change them; an undo is refused where it would change nothing
-abbrev askTotals : Asked → Totals → Totals
-askTotals nothing t = t
-askTotals undo t = takenBack t
-askTotals clear t = clearTotals
-
 undo-totals : (t : Totals) → cond (doneOf (cond (noneBack (t .back)) (outcome.Refused refusal.NothingToTakeBack) outcome.Done)) (takenBack t) t ≡ takenBack t
 unfolding takenBack
 undo-totals t = go (t .back)
@@ -60,7 +56,7 @@ undo-totals t = go (t .back)
     go batch.Nothing = refl
     go (batch.Weight v) = refl
 
-settled-totals : (s : Settings) (st : State) (x : Weights) (r : Request) → decidedOf s st x r .state .totals ≡ askTotals (requestKind r .ledger) (st .totals)
+settled-totals : (s : Settings) (st : State) (x : Weights) (r : Request) → decidedOf s st x r .state .totals ≡ totalsAsked (requestKind r .ledger) (st .totals)
 unfolding decidedOf rulingOf grantedOf
 settled-totals s st x request.Nothing = refl
 settled-totals s st x request.Zero = simp cond-same
@@ -74,9 +70,10 @@ settled-totals s st x request.Undo = undo-totals (st .totals)
 settled-totals s st x request.ShowGross = refl
 settled-totals s st x request.ShowNet = refl
 settled-totals s st x request.DayClose = simp cond-same
+settled-totals s st x request.Discharge = simp cond-same
 
 -- ---- steps 5 and 6: a finished batch alone changes them
-abbrev finishTotals : Bool → ℤ → Totals → Totals
+abbrev pub finishTotals : Bool → ℤ → Totals → Totals
 finishTotals false v t = t
 finishTotals true v t = bookedTotals t v
 
@@ -105,7 +102,7 @@ take-back t l (batch.Weight v) e h =
       count-limit = omega (arith, h .count-limit);
     }
 
-ask-total : (t : Totals) (l : Ledger) (a : Asked) → Totalled t l → Totalled (askTotals a t) (askStep a l)
+ask-total : (t : Totals) (l : Ledger) (a : Asked) → Totalled t l → Totalled (totalsAsked a t) (askStep a l)
 unfolding takenBack
 ask-total t l nothing h = h
 ask-total t l undo h = subst (λ (b : Batch). Totalled (takenBack t) (takeBack l b)) (h .back) (take-back t l (t .back) refl h)
@@ -142,7 +139,7 @@ finish-total t l true v h = go (bookable t v) (canBook l v) same refl
 
 -- ---- the whole tick
 module _ (s : Settings) (st : State) (i : Input) where
-  next-totals : nextOf s st i .totals ≡ finishTotals (eventOf s st i .finished) (eventOf s st i .weight) (askTotals (eventOf s st i .asked) (st .totals))
+  pub next-totals : nextOf s st i .totals ≡ finishTotals (eventOf s st i .finished) (eventOf s st i .weight) (totalsAsked (eventOf s st i .asked) (st .totals))
   unfolding nextOf settledOf enteredOf eventOf
   next-totals =
       ended-totals s (settledOf s st i) (servedOf s st i)

@@ -3,7 +3,7 @@ use mathlib.Core.Path.{refl}
 use lib.Ieee.{ofInt, sub, mul, div, add, lt}
 use Rattle.whole.specs.Nearest.{nearestN, nearestOf}
 use Rattle.whole.specs.Limit.{limitTo}
-use Rattle.outline.specs.Settings.{countsFit, capacityFits, divisionFits, zeroRangeFits, trackingFits, stabilityFits, modeFits, delaysFit, flowFits, addressFits, analogFits, settingsFit, settingsOf, openOf}
+use Rattle.outline.specs.Settings.{countsFit, capacityFits, divisionFits, zeroRangeFits, trackingFits, stabilityFits, modeFits, delaysFit, flowFits, addressFits, analogFits, dischargeFits, settingsFit, settingsOf, openOf}
 use Rattle.outline.specs.Weight.{rawOf, weighOf, steadiedOf}
 use Rattle.outline.specs.DayBook.{limitOf, bookedOf, laterGood, bookOf, closedOf}
 use Rattle.outline.specs.Zero.{trackedOf}
@@ -19,14 +19,14 @@ use Rattle.outline.specs.Replies.{digitsOf, weightText, totalText, point
 use Rattle.outline.specs.Worked.{Batches, Letters, Lines}
 
 pub batches : Batches
-unfolding ofInt sub mul div add lt nearestN nearestOf limitTo countsFit capacityFits divisionFits zeroRangeFits trackingFits stabilityFits modeFits delaysFit flowFits addressFits analogFits settingsFit settingsOf openOf rawOf weighOf steadiedOf limitOf bookedOf laterGood bookOf closedOf trackedOf setpointsFit nearOf fullOf factsOf waitOf firstFlow afterStart judgedOf moveOf stopSequence landOf advanceOf gatesOf bookedTotals bookedSequence takenBack rulingOf grantedOf decidedOf betweenOf clipOf analogOf openState enteredOf weightsOf settledOf servedOf withTracking finishedOf steppedOf endedOf nextOf outputsOf tickOf countIn
+unfolding ofInt sub mul div add lt nearestN nearestOf limitTo countsFit capacityFits divisionFits zeroRangeFits trackingFits stabilityFits modeFits delaysFit flowFits addressFits analogFits dischargeFits settingsFit settingsOf openOf rawOf weighOf steadiedOf limitOf bookedOf laterGood bookOf closedOf trackedOf setpointsFit nearOf fullOf factsOf waitOf firstFlow afterStart judgedOf moveOf stopSequence landOf advanceOf gatesOf bookedTotals bookedSequence takenBack rulingOf grantedOf decidedOf betweenOf clipOf analogOf openState enteredOf weightsOf settledOf servedOf withTracking finishedOf steppedOf endedOf nextOf outputsOf tickOf countIn
 batches = record { stages = refl; gates = refl; late-stages = refl; finish-at-limit = refl; finish-past-limit = refl; late-errors = refl }
 
 pub letters : Letters
 letters = record { rw = refl; rt = refl; rs = refl; mz = refl; mt = refl; ct = refl; mg = refl; mn = refl; bb = refl; hb = refl; dt = refl; ca = refl; dc = refl; ss = refl }
 
 pub lines : Lines
-unfolding ofInt sub mul div add lt nearestN nearestOf limitTo countsFit capacityFits divisionFits zeroRangeFits trackingFits stabilityFits modeFits delaysFit flowFits addressFits analogFits settingsFit settingsOf openOf rawOf weighOf steadiedOf limitOf bookedOf laterGood bookOf closedOf trackedOf setpointsFit nearOf fullOf factsOf waitOf firstFlow afterStart judgedOf moveOf stopSequence landOf advanceOf gatesOf bookedTotals bookedSequence takenBack rulingOf grantedOf decidedOf betweenOf clipOf analogOf openState enteredOf weightsOf settledOf servedOf withTracking finishedOf steppedOf endedOf nextOf outputsOf tickOf countIn lineEndOf lineOf kindOf prefixLength isPrefixed lettersOf fieldOf fieldsOf decodeOf bodyOf spokenOf commandOf requestOf digitsOf weightText totalText pointsText refusedText framed replyText shownOf replyDue toldOf dueText lineTickOf writtenOf replyBuffer
+unfolding ofInt sub mul div add lt nearestN nearestOf limitTo countsFit capacityFits divisionFits zeroRangeFits trackingFits stabilityFits modeFits delaysFit flowFits addressFits analogFits dischargeFits settingsFit settingsOf openOf rawOf weighOf steadiedOf limitOf bookedOf laterGood bookOf closedOf trackedOf setpointsFit nearOf fullOf factsOf waitOf firstFlow afterStart judgedOf moveOf stopSequence landOf advanceOf gatesOf bookedTotals bookedSequence takenBack rulingOf grantedOf decidedOf betweenOf clipOf analogOf openState enteredOf weightsOf settledOf servedOf withTracking finishedOf steppedOf endedOf nextOf outputsOf tickOf countIn lineEndOf lineOf kindOf prefixLength isPrefixed lettersOf fieldOf fieldsOf decodeOf bodyOf spokenOf commandOf requestOf digitsOf weightText totalText pointsText refusedText framed replyText shownOf replyDue toldOf dueText lineTickOf writtenOf replyBuffer
 lines = record {
   rw = refl;
   rw-length = refl;

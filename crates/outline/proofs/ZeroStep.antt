@@ -68,6 +68,7 @@ granted-zeros st x request.Undo = refl
 granted-zeros st x request.ShowGross = refl
 granted-zeros st x request.ShowNet = refl
 granted-zeros st x request.DayClose = refl
+granted-zeros st x request.Discharge = refl
 
 settled-zeros : (s : Settings) (st : State) (x : Weights) (r : Request) →
     zerosOf (decidedOf s st x r .state .weighing) ≡ keyedZeros (decidedOf s st x r .keyed) (x .raw) (zerosOf (st .weighing))
@@ -95,6 +96,7 @@ granted-keyed st x request.Undo = refl
 granted-keyed st x request.ShowGross = refl
 granted-keyed st x request.ShowNet = refl
 granted-keyed st x request.DayClose = refl
+granted-keyed st x request.Discharge = refl
 
 settled-keyed : (s : Settings) (st : State) (x : Weights) (r : Request) →
     decidedOf s st x r .keyed ≡ doneOf (decidedOf s st x r .outcome) && requestKind r .zeroes
@@ -116,6 +118,7 @@ bad-unkeyed s st x request.Undo h = simp and-no
 bad-unkeyed s st x request.ShowGross h = refl
 bad-unkeyed s st x request.ShowNet h = refl
 bad-unkeyed s st x request.DayClose h = simp and-no
+bad-unkeyed s st x request.Discharge h = simp and-no
 
 -- ---- steps 5 and 6: tracking alone changes it
 ended-weighing : (s : Settings) (a : Settled) (x : Weights) → endedOf s a x .weighing ≡ trackedOf s (idleNow (a .state)) (a .keyed) x (a .state .weighing)

@@ -8,6 +8,8 @@ use lib.ListN.{length, getD}
 use lib.IntN.{ℤ}
 use lib.Ieee.{Float}
 use Rattle.types.specs.declared.settings.Given.{Given}
+use Rattle.types.specs.declared.settings.Mode.{Mode}
+use Rattle.types.specs.declared.settings.Mode.the-variants as mode
 use Rattle.types.specs.declared.settings.Settings.{Settings}
 use Rattle.types.specs.declared.analog.Board.{Board}
 use Rattle.types.specs.declared.analog.Board.the-variants as board
@@ -62,6 +64,9 @@ undo = 6
 abbrev pub day-close : ℕ
 day-close = 7
 
+abbrev pub discharge : ℕ
+discharge = 8
+
 abbrev pub nameOf : Request → ℕ
 nameOf request.Nothing = 0
 nameOf request.Zero = zero
@@ -75,6 +80,7 @@ nameOf request.Undo = undo
 nameOf request.ShowGross = 0
 nameOf request.ShowNet = 0
 nameOf request.DayClose = day-close
+nameOf request.Discharge = discharge
 
 abbrev pub isIn : ℕ → List ℕ → Bool
 isIn n [] = false
@@ -98,6 +104,12 @@ isBroken s request.Undo = false
 isBroken s request.ShowGross = false
 isBroken s request.ShowNet = false
 isBroken s request.DayClose = false
+isBroken s request.Discharge = false
+
+-- A1, row 9: "in mode 2"
+abbrev pub isLoss : Mode → Bool
+isLoss mode.Normal = false
+isLoss mode.Loss = true
 
 -- a row: its number, whether it is given now, and its column "To"
 pub record Given-when : Type 0 where
@@ -108,16 +120,17 @@ pub record Given-when : Type 0 where
 abbrev pub row : ℕ → Bool → List ℕ → Given-when
 row n given to = record { number = n; given = given; to = to }
 
--- the table, row by row
+-- the table, row by row; A1: "BD takes 1, 2, 3 as start does, then 9 in mode 2."
 abbrev pub tableOf : Settings → State → Weights → Request → List Given-when
 tableOf s st x r =
-    row 1 (not (x .good)) (zero ∷ tare ∷ start ∷ day-close ∷ [])
-    ∷ row 2 (x .overload) (zero ∷ tare ∷ start ∷ [])
-    ∷ row 3 (not (eqb (stageNumber (st .sequence .stage)) 0)) (zero ∷ tare ∷ tare-clear ∷ start ∷ setpoints ∷ [])
+    row 1 (not (x .good)) (zero ∷ tare ∷ start ∷ day-close ∷ discharge ∷ [])
+    ∷ row 2 (x .overload) (zero ∷ tare ∷ start ∷ discharge ∷ [])
+    ∷ row 3 (not (eqb (stageNumber (st .sequence .stage)) 0)) (zero ∷ tare ∷ tare-clear ∷ start ∷ setpoints ∷ discharge ∷ [])
     ∷ row 4 (not (x .stable)) (zero ∷ tare ∷ [])
     ∷ row 5 (isOutside s x (nameOf r)) (zero ∷ tare ∷ [])
     ∷ row 6 (isBroken s r) (setpoints ∷ [])
     ∷ row 7 (noneBack (st .totals .back)) (undo ∷ [])
+    ∷ row 9 (isLoss (s .batching .mode)) (discharge ∷ [])
     ∷ []
 
 -- "0 is accepted or nothing asked. Otherwise the first that applies, in numerical order."

@@ -4,7 +4,7 @@ use Prim.Native.Nat.{ℕ, _≤_}
 use mathlib.Core.Path.{_≡_}
 use mathlib.Core.Bool.{Bool, true, false, _&&_, _||_}
 use mathlib.Core.List.{List, _++_}
-use lib.Dec.{leb}
+use lib.Dec.{leb, eqb}
 use lib.ListN.{length, drop}
 use lib.IntN.{ℤ}
 use Rattle.types.specs.declared.settings.Settings.{Settings}
@@ -27,7 +27,7 @@ use Rattle.outline.specs.Numbers.{toldNumber}
 use Rattle.outline.specs.Replies.{framed, outcomeTold, askedOf, dueText, lineTickOf, replyBuffer}
 use Rattle.outline.specs.Owed.{Accepted}
 use Rattle.outline.specs.Run.{History, _▷_, runOf, thenAll, lineInput}
-use Rattle.outline.specs.StaysTrue.{NoneSet, figuresOf}
+use Rattle.outline.specs.StaysTrue.{NoneSet, figuresOf, bothOpen}
 
 -- ---- 1. a reply has at most 64 bytes, prefix and CR LF among them, and never more than its buffer
 pub record Bounded (s : Settings) (st : State) (count : ℤ) (contact : Bool) (receive buffer : List ℕ) : Type 0 where
@@ -60,9 +60,9 @@ BytesStay = (s : Settings) (st : State) (count : ℤ) (contact : Bool) (receive 
     → Untouched s st count contact receive buffer
 
 -- ---- 3. what a line is answered
--- 0, a request's refusal 1 to 7, or a line's 11 to 14
+-- 0, a request's refusal 1 to 7 or 9, or a line's 11 to 14
 abbrev pub isAnswer : ℕ → Bool
-isAnswer n = leb n 7 || (leb 11 n && leb n 14)
+isAnswer n = leb n 7 || eqb n 9 || (leb 11 n && leb n 14)
 
 -- an empty line is one too
 abbrev pub isLine : LineKind → Bool
@@ -142,3 +142,8 @@ TicketOnLine = (s : Settings) (st : State) (count : ℤ) (contact : Bool) (recei
     → commandOf receive (s .address) ≡ command.Do word.DayClose
     → lineTickOf s st count contact receive buffer .told ≡ told.Done
     → lineTickOf s st count contact receive buffer .answer .closed ≡ closed.Day (nextOf s st (unaskedOf count contact) .book)
+
+-- ---- 7. A1: "Feed and discharge are never open together.": in the answer of a tick with a line, of whatever state
+abbrev pub NeverTogetherOnLine : Type 0
+NeverTogetherOnLine = (s : Settings) (st : State) (count : ℤ) (contact : Bool) (receive buffer : List ℕ)
+    → bothOpen (lineTickOf s st count contact receive buffer .answer .gates) ≡ false

@@ -26,7 +26,7 @@ abbrev pub minus : ℕ → ℤ
 minus n = negℤ (pos n)
 
 -- ---- settings A
--- settings as a list, in the order of the outline's table
+-- settings as a list, in the order of the outline's table; a discharge's follow
 abbrev pub givenOf : List ℤ → Given
 givenOf l = record {
   zero = getD l 0 (pos 0);
@@ -51,14 +51,18 @@ givenOf l = record {
   board = getD l 19 (pos 0);
   low = getD l 20 (pos 0);
   high = getD l 21 (pos 0);
+  dischargestart = getD l 22 (pos 0);
+  dischargeend = getD l 23 (pos 0);
+  dischargelimit = getD l 24 (pos 0);
 }
 
 -- "Settings A: Z 0, S 100,000, W = C = 10,000, d 1, p 2, q 100, w 5, L 20, k 100, s 2, mode 1, delays 0, Q 6,000, address 0, no board,
--- ends 0 and 10,000."
+-- ends 0 and 10,000."; a discharge with delays of 0 and a limit of 6,000
 abbrev pub listA : List ℤ
 listA =
     pos 0 ∷ pos 100000 ∷ pos 10000 ∷ pos 10000 ∷ pos 1 ∷ pos 2 ∷ pos 100 ∷ pos 5 ∷ pos 20 ∷ pos 100 ∷ pos 2 ∷ pos 1
-    ∷ pos 0 ∷ pos 0 ∷ pos 0 ∷ pos 0 ∷ pos 0 ∷ pos 6000 ∷ pos 0 ∷ pos 0 ∷ pos 0 ∷ pos 10000 ∷ []
+    ∷ pos 0 ∷ pos 0 ∷ pos 0 ∷ pos 0 ∷ pos 0 ∷ pos 6000 ∷ pos 0 ∷ pos 0 ∷ pos 0 ∷ pos 10000
+    ∷ pos 0 ∷ pos 0 ∷ pos 6000 ∷ []
 
 abbrev pub settingsA : Settings
 settingsA = settingsOf (givenOf listA)
@@ -175,7 +179,7 @@ tableEnds =
     ∷ ends 9 (pos 10) (pos 500) ∷ ends 10 (pos 0) (pos 9) ∷ ends 11 (pos 1) (pos 2) ∷ ends 12 (pos 0) (pos 9999)
     ∷ ends 13 (pos 0) (pos 9999) ∷ ends 14 (pos 0) (pos 9999) ∷ ends 15 (pos 0) (pos 9999) ∷ ends 16 (pos 0) (pos 9999)
     ∷ ends 17 (pos 1) (pos 60000) ∷ ends 18 (pos 0) (pos 99) ∷ ends 19 (pos 0) (pos 2) ∷ ends 20 (minus 999999) (pos 9999)
-    ∷ ends 21 (pos 1) (pos 999999) ∷ []
+    ∷ ends 21 (pos 1) (pos 999999) ∷ ends 22 (pos 0) (pos 9999) ∷ ends 23 (pos 0) (pos 9999) ∷ ends 24 (pos 1) (pos 60000) ∷ []
 
 abbrev pub fits : ℕ → ℤ → Bool
 fits n x = settingsFit (givenOf (set listA n x))

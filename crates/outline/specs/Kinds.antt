@@ -17,7 +17,7 @@ pub record Kind : Type 0 where
   pub closes : Bool
   -- setpoints are written
   pub writes : Bool
-  -- "Step 6 is passed over in a tick with an accepted start, or a stop."
+  -- "Step 6 is passed over in a tick with an accepted start, or a stop."; A1: "BD, like BB, .. passes step 6 over"
   pub skips : Bool
   pub ledger : Asked
 
@@ -25,7 +25,7 @@ pub record Kind : Type 0 where
 abbrev pub elsewhere : Kind
 elsewhere = record { zeroes = false; closes = false; writes = false; skips = false; ledger = nothing }
 
--- a start, a stop
+-- a start, a stop, a discharge
 abbrev pub skipping : Kind
 skipping = record { zeroes = false; closes = false; writes = false; skips = true; ledger = nothing }
 
@@ -42,3 +42,4 @@ requestKind request.Undo = record { zeroes = false; closes = false; writes = fal
 requestKind request.ShowGross = elsewhere
 requestKind request.ShowNet = elsewhere
 requestKind request.DayClose = record { zeroes = false; closes = true; writes = false; skips = false; ledger = nothing }
+requestKind request.Discharge = skipping

@@ -33,13 +33,17 @@ stableTimeLimit = 500
 abbrev pub stableWidthLimit : ℕ
 stableWidthLimit = 9
 
--- each of the five delays, in ticks
+-- each of the five delays, and the two of a discharge, in ticks
 abbrev pub delayLimit : ℕ
 delayLimit = 9999
 
 -- Q, in ticks
 abbrev pub flowLimit : ℕ
 flowLimit = 60000
+
+-- the limit of a discharge, in ticks
+abbrev pub dischargeLimit : ℕ
+dischargeLimit = 60000
 
 abbrev pub addressLimit : ℕ
 addressLimit = 99

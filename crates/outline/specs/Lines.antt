@@ -90,12 +90,13 @@ lettersFor word.Stop = 0x4842  -- HB
 lettersFor word.TotalClear = 0x4454  -- DT
 lettersFor word.Undo = 0x4341  -- CA
 lettersFor word.DayClose = 0x4443  -- DC
+lettersFor word.Discharge = 0x4244  -- BD
 
 -- SS
 abbrev pub setLetters : ℕ
 setLetters = 0x5353
 
--- "Commands: RW, RT, RS, MZ, MT, CT, MG, MN, BB, HB, DT, CA, SS, and house DC (day close)."
+-- "Commands: RW, RT, RS, MZ, MT, CT, MG, MN, BB, HB, DT, CA, SS, and house DC (day close)."; A1: BD
 abbrev pub named : ℕ → Letters
 named k =
     cond (eqb k (lettersFor word.ReadWeight)) (letters.One word.ReadWeight)
@@ -111,8 +112,9 @@ named k =
     (cond (eqb k (lettersFor word.TotalClear)) (letters.One word.TotalClear)
     (cond (eqb k (lettersFor word.Undo)) (letters.One word.Undo)
     (cond (eqb k (lettersFor word.DayClose)) (letters.One word.DayClose)
+    (cond (eqb k (lettersFor word.Discharge)) (letters.One word.Discharge)
     (cond (eqb k setLetters) letters.Set
-    letters.Other)))))))))))))
+    letters.Other))))))))))))))
 
 unfoldable pub lettersOf : ℕ → ℕ → Letters
 lettersOf a b = named (a * 256 + b)

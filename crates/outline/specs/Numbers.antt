@@ -41,6 +41,7 @@ refusalNumber refusal.Unstable = 4
 refusalNumber refusal.OutsideRules = 5
 refusalNumber refusal.SetpointRules = 6
 refusalNumber refusal.NothingToTakeBack = 7
+refusalNumber refusal.LossInWeight = 9
 
 abbrev pub outcomeNumber : Outcome → ℕ
 outcomeNumber outcome.Done = 0
@@ -58,6 +59,9 @@ stageNumber (stage.SmallDisable t) = 8
 stageNumber stage.SmallFlow = 9
 stageNumber (stage.JudgeDelay t) = 10
 stageNumber stage.JudgeWait = 11
+stageNumber (stage.DischargeStart t) = 14
+stageNumber stage.Discharge = 15
+stageNumber (stage.DischargeEnd t) = 16
 
 -- sequence errors
 abbrev pub errorNumber : SequenceError → ℕ
@@ -68,6 +72,8 @@ errorNumber error.Stopped = 4
 errorNumber error.FlowTime = 6
 errorNumber error.BadWeight = 9
 errorNumber error.NotBooked = 10
+errorNumber error.DischargeStopped = 7
+errorNumber error.DischargeTime = 8
 
 -- judgement: words in the outline, numbers of the house
 abbrev pub judgementNumber : Judgement → ℕ

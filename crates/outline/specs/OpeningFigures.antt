@@ -30,7 +30,7 @@ writtenA = record {
   range = record { capacity = 10000; division = 1; zeroing = 2 };
   tracking = record { time = 100; width = 5; allowance = 20 };
   steadiness = record { time = 100; width = 2 };
-  batching = record { mode = mode.Normal; start = 0; large = 0; medium = 0; small = 0; judge = 0; flow = 6000 };
+  batching = record { mode = mode.Normal; start = 0; large = 0; medium = 0; small = 0; judge = 0; flow = 6000; discharge = record { start = 0; end = 0; limit = 6000 } };
   address = 0;
   board = board.None;
   scale = record { low = f64 (pos 0); span = f64 (pos 10000) };
@@ -40,7 +40,7 @@ writtenA = record {
 abbrev pub listB : List ℤ
 listB =
     minus 1000 ∷ pos 99000 ∷ pos 12000 ∷ pos 8000 ∷ pos 5 ∷ pos 3 ∷ pos 40 ∷ pos 6 ∷ pos 30 ∷ pos 20 ∷ pos 4 ∷ pos 2
-    ∷ pos 11 ∷ pos 12 ∷ pos 13 ∷ pos 14 ∷ pos 15 ∷ pos 16 ∷ pos 17 ∷ pos 1 ∷ minus 7 ∷ pos 70 ∷ []
+    ∷ pos 11 ∷ pos 12 ∷ pos 13 ∷ pos 14 ∷ pos 15 ∷ pos 16 ∷ pos 17 ∷ pos 1 ∷ minus 7 ∷ pos 70 ∷ pos 18 ∷ pos 19 ∷ pos 21 ∷ []
 
 abbrev pub writtenB : Settings
 writtenB = record {
@@ -48,7 +48,7 @@ writtenB = record {
   range = record { capacity = 12000; division = 5; zeroing = 3 };
   tracking = record { time = 40; width = 6; allowance = 30 };
   steadiness = record { time = 20; width = 4 };
-  batching = record { mode = mode.Loss; start = 11; large = 12; medium = 13; small = 14; judge = 15; flow = 16 };
+  batching = record { mode = mode.Loss; start = 11; large = 12; medium = 13; small = 14; judge = 15; flow = 16; discharge = record { start = 18; end = 19; limit = 21 } };
   address = 17;
   board = board.Current;
   scale = record { low = f64 (minus 7); span = f64 (pos 77) };

@@ -36,7 +36,7 @@ firstAnswer gross near = record {
   outcome = outcome.Done;
   reading = record { good = true; overload = false; stable = false; gross = gross; net = gross };
   stage = stage.Idle;
-  gates = record { large = false; medium = false; small = false };
+  gates = record { large = false; medium = false; small = false; discharge = false };
   judgement = judgement.None;
   error = error.None;
   near = near;

@@ -1,12 +1,13 @@
 -- The range of every field of the state, under settings s: what no run leaves. A field that has no use is 0.
 use Prim.Native.Nat.{_+_, _*_, _<_, _≤_, max}
 use mathlib.Core.Path.{_≡_}
-use mathlib.Core.Bool.{true, false}
+use mathlib.Core.Bool.{true, false, _||_}
 use lib.IntN.{pos, natAbs, _-ℤ_, _*ℤ_}
 use lib.Signed.{leZ}
 use Rattle.types.specs.declared.settings.Range.{Range}
 use Rattle.types.specs.declared.settings.Tracking.{Tracking}
 use Rattle.types.specs.declared.settings.Steadiness.{Steadiness}
+use Rattle.types.specs.declared.settings.Mode.the-variants as mode
 use Rattle.types.specs.declared.settings.Batching.{Batching}
 use Rattle.types.specs.declared.settings.Settings.{Settings}
 use Rattle.types.specs.declared.weight.Stability.{Stability}
@@ -14,7 +15,7 @@ use Rattle.types.specs.declared.weight.Weighing.{Weighing}
 use Rattle.types.specs.declared.weight.Weights.{Weights}
 use Rattle.types.specs.declared.daybook.Book.{Book}
 use Rattle.types.specs.declared.stages.Stage.{Stage}
-use Rattle.types.specs.declared.stages.Stage.the-variants.{Idle, StartDelay, LargeDisable, LargeFlow, MediumDisable, MediumFlow, SmallDisable, SmallFlow, JudgeDelay, JudgeWait}
+use Rattle.types.specs.declared.stages.Stage.the-variants.{Idle, StartDelay, LargeDisable, LargeFlow, MediumDisable, MediumFlow, SmallDisable, SmallFlow, JudgeDelay, JudgeWait, DischargeStart, Discharge, DischargeEnd}
 use Rattle.types.specs.declared.stages.Judgement.the-variants as judgement
 use Rattle.types.specs.declared.stages.SequenceError.the-variants as error
 use Rattle.types.specs.declared.stages.Sequence.{Sequence}
@@ -25,7 +26,7 @@ use Rattle.types.specs.declared.machine.State.{State}
 use Rattle.outline.specs.Limits.{rawLimit, dayTicks, bookLimit, totalLimit, batchLimit, overloadMargin}
 use Rattle.outline.specs.Weight.{fitOf}
 use Rattle.outline.specs.Setpoints.{setpointsFit}
-use Rattle.outline.specs.Stages.{idleOf, flowingOf}
+use Rattle.outline.specs.Stages.{idleOf, flowingOf, emptyingOf, dischargingOf}
 
 -- the day book
 pub record BookRange (b : Book) : Type 0 where
@@ -64,15 +65,21 @@ TimerRange b (SmallDisable t) = t < max (b .small) 1
 TimerRange b SmallFlow = Unit {0}
 TimerRange b (JudgeDelay t) = t < max (b .judge) 1
 TimerRange b JudgeWait = Unit {0}
+TimerRange b (DischargeStart t) = t < max (b .discharge .start) 1
+TimerRange b Discharge = Unit {0}
+TimerRange b (DischargeEnd t) = t < max (b .discharge .end) 1
 
 pub record SequenceRange (b : Batching) (q : Sequence) : Type 0 where
   pub timer : TimerRange b (q .stage)
-  -- the flow clock never stands above Q, and is 0 where it does not run
-  pub clock : q .clock ≤ b .flow
-  pub unclocked : flowingOf (q .stage) ≡ false → q .clock ≡ 0
-  -- no error and no judgement outside stage 00
+  -- neither clock stands above its limit, and it is 0 where none runs
+  pub flow-clock : flowingOf (q .stage) ≡ true → q .clock ≤ b .flow
+  pub discharge-clock : emptyingOf (q .stage) ≡ true → q .clock ≤ b .discharge .limit
+  pub unclocked : flowingOf (q .stage) || emptyingOf (q .stage) ≡ false → q .clock ≡ 0
+  -- no error outside stage 00, and no judgement in a batch
   pub no-error : idleOf (q .stage) ≡ false → q .error ≡ error.None
-  pub no-judgement : idleOf (q .stage) ≡ false → q .judgement ≡ judgement.None
+  pub no-judgement : idleOf (q .stage) || dischargingOf (q .stage) ≡ false → q .judgement ≡ judgement.None
+  -- no discharge in mode 2
+  pub normal : dischargingOf (q .stage) ≡ true → b .mode ≡ mode.Normal
 
 -- what can be taken back was booked: undo's differences never stop at 0
 abbrev pub BackRange : Totals → Batch → Type 0

@@ -51,6 +51,7 @@ module _ (s : Settings) (st : State) (i : Input) where
   word-before word.TotalClear e x o = refl
   word-before word.Undo e x o = refl
   word-before word.DayClose e x o = refl
+  word-before word.Discharge e x o = refl
 
   pub due-before : (c : Command) → i .request ≡ requestOf c → (x : Reading) (o : Outcome) → replyDue c (settledOf s st i .state) x o ≡ replyDue c st x o
   unfolding requestOf replyDue

@@ -111,6 +111,7 @@ wordRequest word.Stop = request.Stop
 wordRequest word.TotalClear = request.TotalClear
 wordRequest word.Undo = request.Undo
 wordRequest word.DayClose = request.DayClose
+wordRequest word.Discharge = request.Discharge
 
 -- "After any of 11 to 14 the request is not done and the tick runs as if it had none."
 unfoldable pub requestOf : Command → Request
@@ -164,6 +165,7 @@ wordReply word.Stop st x o = requestReply (lettersFor word.Stop) o
 wordReply word.TotalClear st x o = requestReply (lettersFor word.TotalClear) o
 wordReply word.Undo st x o = requestReply (lettersFor word.Undo) o
 wordReply word.DayClose st x o = requestReply (lettersFor word.DayClose) o
+wordReply word.Discharge st x o = requestReply (lettersFor word.Discharge) o
 
 -- "A 12, no line and a line over 64 bytes have an empty reply; another 11, and 13, reply with NG and the number."
 unfoldable pub replyDue : Command → State → Reading → Outcome → Reply

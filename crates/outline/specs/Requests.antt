@@ -4,6 +4,7 @@ use mathlib.Core.List.{List, [], _∷_}
 use lib.IntN.{pos}
 use Rattle.types.specs.declared.settings.Range.{Range}
 use Rattle.types.specs.declared.settings.Mode.{Mode}
+use Rattle.types.specs.declared.settings.Mode.the-variants as mode
 use Rattle.types.specs.declared.settings.Settings.{Settings}
 use Rattle.types.specs.declared.weight.Weights.{Weights}
 use Rattle.types.specs.declared.weight.Display.the-variants as display
@@ -21,7 +22,7 @@ use Rattle.types.specs.declared.machine.Settled.{Settled}
 use Rattle.outline.specs.DayBook.{closedOf}
 use Rattle.outline.specs.Zero.{inZeroRange, zeroedOf, inTareRange, taredOf}
 use Rattle.outline.specs.Setpoints.{setpointsFit}
-use Rattle.outline.specs.Stages.{idleOf, startSequence, stopSequence}
+use Rattle.outline.specs.Stages.{idleOf, startSequence, stopSequence, dischargeSequence}
 use Rattle.outline.specs.Totals.{clearTotals, noneBack, takenBack}
 use Rattle.outline.specs.Parts.{withBook, withWeighing, withDisplay, withSetpoints, withSequence, withTotals, pickState}
 
@@ -62,6 +63,14 @@ row6 kept = record { number = refusal.SetpointRules; applies = not kept }
 abbrev pub row7 : Totals → Row
 row7 t = record { number = refusal.NothingToTakeBack; applies = noneBack (t .back) }
 
+-- A1: "then 9 in mode 2"
+abbrev pub lossMode : Mode → Bool
+lossMode mode.Normal = false
+lossMode mode.Loss = true
+
+abbrev pub row9 : Mode → Row
+row9 m = record { number = refusal.LossInWeight; applies = lossMode m }
+
 -- The column "To", turned: the rows that each request can meet, in numerical order. "Stop, total clear, show gross and show net are
 -- never refused here."
 abbrev pub rowsTo : Range → Mode → Sequence → Totals → Weights → Request → List Row
@@ -77,6 +86,8 @@ rowsTo range mode q t x request.Undo = row7 t ∷ []
 rowsTo range mode q t x request.ShowGross = []
 rowsTo range mode q t x request.ShowNet = []
 rowsTo range mode q t x request.DayClose = row1 x ∷ []
+-- A1: "BD takes 1, 2, 3 as start does, then 9 in mode 2."
+rowsTo range mode q t x request.Discharge = row1 x ∷ row2 x ∷ row3 q ∷ row9 mode ∷ []
 
 -- "0 is accepted or nothing asked. Otherwise the first that applies, in numerical order."
 abbrev pub firstOf : List Row → Outcome
@@ -95,7 +106,7 @@ doneOf (outcome.Refused n) = false
 abbrev pub plainly : State → Settled
 plainly st = record { outcome = outcome.Done; state = st; held = false; keyed = false; closed = closed.Nothing }
 
--- "Step 6 is passed over in a tick with an accepted start, or a stop."
+-- "Step 6 is passed over in a tick with an accepted start, or a stop."; A1: "BD, like BB, .. passes step 6 over"
 abbrev pub holding : State → Settled
 holding st = record { outcome = outcome.Done; state = st; held = true; keyed = false; closed = closed.Nothing }
 
@@ -121,6 +132,7 @@ grantedOf st x request.Undo = plainly (withTotals st (takenBack (st .totals)))
 grantedOf st x request.ShowGross = plainly (withDisplay st display.Gross)
 grantedOf st x request.ShowNet = plainly (withDisplay st display.Net)
 grantedOf st x request.DayClose = closing st
+grantedOf st x request.Discharge = holding (withSequence st (dischargeSequence (st .sequence)))
 
 -- "A refused request changes nothing; the rest of the tick goes on."
 abbrev pub unlessRefused : Outcome → State → Settled → Settled

@@ -43,9 +43,13 @@ abbrev pub noLargeFlow : Mode → Setpoints → Bool
 noLargeFlow mode.Normal p = eqb (p .optional) 0
 noLargeFlow mode.Loss p = true
 
+-- "gross at most near zero": the output's test, and A1's, where a discharge has emptied the hopper
+abbrev pub atMostNear : Setpoints → ℤ → Bool
+atMostNear p gross = leZ gross (pos (p .near))
+
 -- "Near-zero output: gross at most near zero." "Both are off in a bad or overloaded tick."
 unfoldable pub nearOf : Setpoints → Weights → Bool
-nearOf p x = fitOf x && leZ (x .gross) (pos (p .near))
+nearOf p x = fitOf x && atMostNear p (x .gross)
 
 -- "Full output: mode 2 and gross above full."
 abbrev pub aboveFull : Mode → Setpoints → ℤ → Bool

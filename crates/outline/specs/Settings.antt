@@ -1,4 +1,5 @@
--- The outline's section "Settings, checked once at opening": each row of its table, and what is made of accepted settings.
+-- The outline's section "Settings, checked once at opening": each row of its table, those of a discharge (A1), and what is made of accepted
+-- settings.
 use Prim.Native.Nat.{ℕ}
 use mathlib.Core.Bool.{Bool, cond, not, _&&_, _||_}
 use lib.Dec.{leb}
@@ -13,7 +14,7 @@ use Rattle.types.specs.declared.settings.Opening.{Opening}
 use Rattle.types.specs.declared.settings.Opening.the-variants as opening
 use Rattle.types.specs.declared.analog.Board.{Board}
 use Rattle.types.specs.declared.analog.Board.the-variants as board
-use Rattle.outline.specs.Limits.{countLimit, capacityLimit, zeroRangeLimit, trackTimeLimit, trackWidthLimit, allowanceLimit, stableTimeLeast, stableTimeLimit, stableWidthLimit, delayLimit, flowLimit, addressLimit, endLimit}
+use Rattle.outline.specs.Limits.{countLimit, capacityLimit, zeroRangeLimit, trackTimeLimit, trackWidthLimit, allowanceLimit, stableTimeLeast, stableTimeLimit, stableWidthLimit, delayLimit, flowLimit, dischargeLimit, addressLimit, endLimit}
 use Rattle.outline.specs.Analog.{scaleOf}
 
 -- from a to b, both taken in
@@ -72,10 +73,15 @@ addressFits g = fromTo 0 addressLimit (g .address)
 unfoldable pub analogFits : Given → Bool
 analogFits g = fromTo 0 2 (g .board) && within endLimit (g .low) && within endLimit (g .high) && not (eqZ (g .low) (g .high))
 
+-- A1: "Both delays are 0..9,999 ticks."; "its own limit (1..60,000 ticks)". In mode 2 too (D11).
+unfoldable pub dischargeFits : Given → Bool
+dischargeFits g =
+    fromTo 0 delayLimit (g .dischargestart) && fromTo 0 delayLimit (g .dischargeend) && fromTo 1 dischargeLimit (g .dischargelimit)
+
 unfoldable pub settingsFit : Given → Bool
 settingsFit g =
     countsFit g && capacityFits g && divisionFits g && zeroRangeFits g && trackingFits g && stabilityFits g
-    && modeFits g && delaysFit g && flowFits g && addressFits g && analogFits g
+    && modeFits g && delaysFit g && flowFits g && addressFits g && analogFits g && dischargeFits g
 
 -- ---- accepted settings: the numbers as they were given, in types as narrow as their ranges
 abbrev pub modeOf : ℤ → Mode
@@ -98,6 +104,7 @@ settingsOf g = record {
     small = natAbs (g .small);
     judge = natAbs (g .judge);
     flow = natAbs (g .flow);
+    discharge = record { start = natAbs (g .dischargestart); end = natAbs (g .dischargeend); limit = natAbs (g .dischargelimit) };
   };
   address = natAbs (g .address);
   board = boardOf (g .board);

@@ -2,7 +2,7 @@
 -- and `every_run` has them as its `ensures`. Histories stand in Run, Day, Zeroing and Ledger, ranges in Ranges.
 use Prim.Native.Nat.{ℕ, _+_, _≤_}
 use mathlib.Core.Path.{_≡_}
-use mathlib.Core.Bool.{Bool, true, false, _&&_}
+use mathlib.Core.Bool.{Bool, true, false, _&&_, _||_}
 use mathlib.Core.List.{List, [], _∷_}
 use lib.ListN.{length, take, drop}
 use lib.IntN.{ℤ, natAbs, _+ℤ_, _-ℤ_}
@@ -12,6 +12,8 @@ use Rattle.types.specs.declared.requests.Request.the-variants as request
 use Rattle.types.specs.declared.requests.Outcome.the-variants as outcome
 use Rattle.types.specs.declared.stages.Setpoints.{Setpoints}
 use Rattle.types.specs.declared.stages.SequenceError.the-variants as error
+use Rattle.types.specs.declared.stages.Gates.{Gates}
+use Rattle.types.specs.declared.stages.Totals.{Totals}
 use Rattle.types.specs.declared.machine.State.{State}
 use Rattle.types.specs.declared.machine.Input.{Input}
 use Rattle.types.specs.declared.lines.Command.the-variants as command
@@ -19,14 +21,15 @@ use Rattle.types.specs.declared.lines.LineAnswer.the-variants as told
 use Rattle.types.specs.declared.lines.LineTick.{LineTick}
 use Rattle.types.specs.declared.lines.Word.the-variants as word
 use Rattle.outline.specs.Limits.{blockLimit, totalLimit, batchLimit}
-use Rattle.outline.specs.Stages.{shut}
+use Rattle.outline.specs.Stages.{shut, dischargingOf}
+use Rattle.outline.specs.Totals.{clearTotals, takenBack}
 use Rattle.outline.specs.Requests.{doneOf}
 use Rattle.outline.specs.Tick.{settledOf, servedOf, nextOf, tickOf, blockOf}
 use Rattle.outline.specs.Lines.{lineOf, prefixLength, commandOf}
 use Rattle.outline.specs.Replies.{framed, dueText, lineTickOf}
 use Rattle.outline.specs.Log.{requestTick}
 use Rattle.outline.specs.Owed.{Accepted}
-use Rattle.outline.specs.Kinds.{requestKind}
+use Rattle.outline.specs.Kinds.{Asked, nothing, undo, clear, requestKind}
 use Rattle.outline.specs.Run.{History, _▷_, runOf, thenAll, blockInputs, lineInput, logInput, withoutRequest}
 use Rattle.outline.specs.Day.{tapeOf, bookHistory}
 use Rattle.outline.specs.Zeroing.{seenRun, zeroingOf, sumOf, AllWithin}
@@ -151,3 +154,29 @@ LinesAreRuns = (s : Settings) (h : History Input) (count : ℤ) (contact : Bool)
 abbrev pub LogsAreRuns : Type 0
 LogsAreRuns = (s : Settings) (h : History Input) (count : ℤ) (contact : Bool) (request buffer : List ℕ)
     → IsTick s h (logInput s (runOf s h) count contact request buffer) (requestTick s (runOf s h) count contact request buffer)
+
+-- ---- 12. A1: "Feed and discharge are never open together.": in the answer of a tick of whatever state
+abbrev pub bothOpen : Gates → Bool
+bothOpen g = (g .large || g .medium || g .small) && g .discharge
+
+abbrev pub NeverTogether : Type 0
+NeverTogether = (s : Settings) (st : State) (i : Input) → bothOpen (tickOf s st i .answer .gates) ≡ false
+
+-- ---- 13. A1: a discharge is no batch: of itself it changes neither total nor count nor what can be taken back nor the judgement
+-- what a request makes of the totals by itself; an undo that is refused has nothing to take back
+abbrev pub totalsAsked : Asked → Totals → Totals
+totalsAsked nothing t = t
+totalsAsked undo t = takenBack t
+totalsAsked clear t = clearTotals
+
+pub record Kept (s : Settings) (st : State) (i : Input) : Type 0 where
+  pub totals : nextOf s st i .totals ≡ totalsAsked (requestKind (i .request) .ledger) (st .totals)
+  pub judgement : nextOf s st i .sequence .judgement ≡ st .sequence .judgement
+
+-- in the tick that begins it, and in every tick that finds it under way, the one that ends it too, whether by near zero or by an error
+pub record Discharges (s : Settings) (st : State) (i : Input) : Type 0 where
+  pub begins : i .request ≡ request.Discharge → tickOf s st i .answer .outcome ≡ outcome.Done → Kept s st i
+  pub goes-on : dischargingOf (st .sequence .stage) ≡ true → Kept s st i
+
+abbrev pub DischargeIsNoBatch : Type 0
+DischargeIsNoBatch = (s : Settings) (st : State) (i : Input) → Discharges s st i

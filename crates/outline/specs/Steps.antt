@@ -29,7 +29,7 @@ use Rattle.types.specs.declared.machine.Ticked.{Ticked}
 use Rattle.outline.specs.Weight.{rawOf, weighOf, steadiedOf, fitOf}
 use Rattle.outline.specs.DayBook.{bookOf, closedOf}
 use Rattle.outline.specs.Zero.{zeroedOf, taredOf, trackedOf}
-use Rattle.outline.specs.Stages.{idleOf, startSequence, stopSequence, comparedOf, factsAt, factsOf, advanceOf}
+use Rattle.outline.specs.Stages.{idleOf, startSequence, stopSequence, dischargeSequence, comparedOf, factsAt, factsOf, advanceOf}
 use Rattle.outline.specs.Totals.{clearTotals, takenBack, bookedTotals, bookedSequence}
 use Rattle.outline.specs.Parts.{withBook, withWeighing, withDisplay, withSetpoints, withSequence, withTotals, pickState}
 use Rattle.outline.specs.Requests.{plainly, rowsTo, firstOf, grantOf, unlessRefused, decidedOf, grantedOf, rulingOf}
@@ -71,7 +71,7 @@ module _ (s : Settings) (st : State) (x : Weights) where
 
   -- `n` is the setpoints, or a copy of them
   module _ (n : Setpoints) (fit : Bool) (v : ℤ) (a : Advanced) (en : n ≡ st .setpoints) (ef : fit ≡ fitOf x) (ev : v ≡ comparedOf (s .batching .mode) x)
-      (ea : a ≡ advanceOf (s .batching) n (st .sequence) (factsAt n (not fit) (x .stable) v)) where
+      (ea : a ≡ advanceOf (s .batching) n (st .sequence) (factsAt n (not fit) (x .stable) v (x .gross))) where
     pub step-on : a .finished ≡ false → withSequence st (a .sequence) ≡ steppedOf s st x
     unfolding steppedOf finishedOf factsOf
     step-on e = simp (← en, ← ef, ← ev, ← ea, e)
@@ -184,6 +184,10 @@ module _ (st : State) (x : Weights) (d : Request) where
   pub left-close : d ≡ request.DayClose → (b : Book) → b ≡ closedOf (st .book) → leftOf outcome.Done (withBook st b) false false (closed.Day (st .book)) ≡ grantedOf st x d
   unfolding grantedOf
   left-close e b eb = simp (e, eb)
+
+  pub left-discharge : d ≡ request.Discharge → (q : Sequence) → q ≡ dischargeSequence (st .sequence) → leftOf outcome.Done (withSequence st q) true false closed.Nothing ≡ grantedOf st x d
+  unfolding grantedOf
+  left-discharge e q eq = simp (e, eq)
 
 -- steps 1 to 5, call by call
 pub record Asked (s : Settings) (st : State) (i : Input) (raw : Raw) (q : Stability) (b : Book) (x : Weights) (o : Outcome) (d : Request)

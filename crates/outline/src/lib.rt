@@ -14,8 +14,8 @@ ghost use Rattle.outline.specs.WeightFigures.{Tracked};
 ghost use Rattle.outline.specs.OutputFigures.{Displayed};
 ghost use Rattle.outline.specs.Owed.{OpeningLaw, RawLaw, SetpointLaw, TimedLaw};
 ghost use Rattle.outline.specs.AnalogOwed.{ScaleLaw, AnalogLaws};
-ghost use Rattle.outline.specs.EveryLine.{ReplyBounded, BytesStay, AnsweredInOrder, RefusedLines, ReadBackOnLine, GatesShutOnLine, TicketOnLine};
-ghost use Rattle.outline.specs.StaysTrue.{Balance, SumsOfHistory, NothingElse, ZeroInForce, TotalOfBatches, GatesShut, InRange, Refusals, ReadBack, Ticket, BlocksAreRuns, LinesAreRuns, LogsAreRuns};
+ghost use Rattle.outline.specs.EveryLine.{ReplyBounded, BytesStay, AnsweredInOrder, RefusedLines, ReadBackOnLine, GatesShutOnLine, TicketOnLine, NeverTogetherOnLine};
+ghost use Rattle.outline.specs.StaysTrue.{Balance, SumsOfHistory, NothingElse, ZeroInForce, TotalOfBatches, GatesShut, InRange, Refusals, ReadBack, Ticket, BlocksAreRuns, LinesAreRuns, LogsAreRuns, NeverTogether, DischargeIsNoBatch};
 
 // The figures of the outline and the laws that the definitions owe. It does nothing: it stands here so that the check's list names
 // them, and misses them if a proof goes.
@@ -67,6 +67,8 @@ pub fn every_run()
     ensures blocks { λ r. ⌜ BlocksAreRuns ⌝ }
     ensures lines { λ r. ⌜ LinesAreRuns ⌝ }
     ensures logs { λ r. ⌜ LogsAreRuns ⌝ }
+    ensures apart { λ r. ⌜ NeverTogether ⌝ }
+    ensures discharge { λ r. ⌜ DischargeIsNoBatch ⌝ }
 {}
 
 // What holds of every tick with a line, for whatever settings and state or for every run. It does nothing, and stands here as
@@ -79,4 +81,5 @@ pub fn every_line()
     ensures read_back { λ r. ⌜ ReadBackOnLine ⌝ }
     ensures gates { λ r. ⌜ GatesShutOnLine ⌝ }
     ensures ticket { λ r. ⌜ TicketOnLine ⌝ }
+    ensures apart { λ r. ⌜ NeverTogetherOnLine ⌝ }
 {}

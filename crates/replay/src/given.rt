@@ -1,4 +1,4 @@
-// The settings line: 22 whole numbers separated by single spaces, in the order of the outline's table.
+// The settings line: 25 whole numbers separated by single spaces, in the order of the outline's table, and then those of a discharge.
 use commands::line::byte_at;
 use logs::numerals::number_at;
 use types::log::LogNumber;
@@ -89,11 +89,14 @@ fn made(n: &[i32]) -> Given {
         board: number(n, 19),
         low: number(n, 20),
         high: number(n, 21),
+        dischargestart: number(n, 22),
+        dischargeend: number(n, 23),
+        dischargelimit: number(n, 24),
     }
 }
 
 pub(crate) fn given_line(line: &[u8]) -> GivenLine {
-    let mut numbers = [0i32; 22];
+    let mut numbers = [0i32; 25];
     if read_numbers(line, &mut numbers) {
         return GivenLine::Read(made(&numbers));
     }

@@ -1,6 +1,6 @@
 // The replay program: a recorded log under given settings, with every output of every tick.
 //
-// Standard input: a first line of 22 whole numbers, the settings, then a line `count contact request` for each tick. Standard output:
+// Standard input: a first line of 25 whole numbers, the settings, then a line `count contact request` for each tick. Standard output:
 // `answer=` and the number of the opening, then a line of key=value pairs for each tick. The first argument, 0 to 64, is the
 // length of the reply buffer (64 without it).
 ghost use Prim.Native.Nat.{_≤_};

@@ -89,9 +89,14 @@ fn gate(open: bool, letter: u8) -> u8 {
     if open { letter } else { DASH }
 }
 
-// Three characters.
+// Four characters.
 fn put_gates(out: &mut [u8], at: usize, g: Gates) -> usize {
-    let gates = [gate(g.large, 76), gate(g.medium, 77), gate(g.small, 83)];
+    let gates = [
+        gate(g.large, 76),
+        gate(g.medium, 77),
+        gate(g.small, 83),
+        gate(g.discharge, 68),
+    ];
     let at = put(out, at, b" gates=");
     put(out, at, &gates)
 }

@@ -15,7 +15,7 @@ use Rattle.outline.specs.Replies.{requestReply, wordReply}
 
 -- the places of these words among all
 abbrev pub others : List ℕ
-others = 3 ∷ 4 ∷ 5 ∷ 6 ∷ 7 ∷ 8 ∷ 9 ∷ 10 ∷ 11 ∷ 12 ∷ []
+others = 3 ∷ 4 ∷ 5 ∷ 6 ∷ 7 ∷ 8 ∷ 9 ∷ 10 ∷ 11 ∷ 12 ∷ 13 ∷ []
 
 pub settled : (w : Word) (st : State) (x : Reading) (o : Outcome) → OneOf others (tagOf the-type w) → requestReply (lettersFor w) o ≡ wordReply w st x o
 settled word.ReadWeight st x o h = absurd (miss others _ tt h)
@@ -31,3 +31,4 @@ settled word.Stop st x o h = refl
 settled word.TotalClear st x o h = refl
 settled word.Undo st x o h = refl
 settled word.DayClose st x o h = refl
+settled word.Discharge st x o h = refl

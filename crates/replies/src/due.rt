@@ -32,6 +32,7 @@ fn word_request(w: Word) -> Request
         Word::TotalClear => Request::TotalClear,
         Word::Undo => Request::Undo,
         Word::DayClose => Request::DayClose,
+        Word::Discharge => Request::Discharge,
     }
 }
 

@@ -3,7 +3,7 @@
 ghost use mathlib.Core.Path.{_≡_};
 ghost use mathlib.Core.Bool.{cond};
 ghost use mathlib.Core.List.{[], _∷_};
-ghost use Rattle.outline.specs.Requests.{row1, row2, row3, row4, row5, row6, row7, rowsTo, firstOf, grantOf};
+ghost use Rattle.outline.specs.Requests.{row1, row2, row3, row4, row5, row6, row7, row9, rowsTo, firstOf, grantOf};
 ghost use Rattle.outline.specs.Setpoints.{setpointsFit};
 use types::requests::Outcome;
 use types::requests::Refusal;
@@ -88,6 +88,16 @@ fn undo_ruling(t: Totals) -> Outcome
     Outcome::Done
 }
 
+// Row 9.
+fn mode_ruling(mode: Mode) -> Outcome
+    ensures { λ r. ⌜ r ≡ firstOf (row9 mode ∷ []) ⌝ }
+{
+    match mode {
+        Mode::Normal => Outcome::Done,
+        Mode::Loss => Outcome::Refused(Refusal::LossInWeight),
+    }
+}
+
 // The table, turned: the rows that each request can meet, in numerical order, and the first that applies.
 pub fn ruling(range: Range, mode: Mode, q: Sequence, t: Totals, x: Weights, r: Request) -> Outcome
     ensures { λ o. ⌜ o ≡ firstOf (rowsTo range mode q t x r) ⌝ }
@@ -111,6 +121,7 @@ pub fn ruling(range: Range, mode: Mode, q: Sequence, t: Totals, x: Weights, r: R
         Request::ShowGross => return Outcome::Done,
         Request::ShowNet => return Outcome::Done,
         Request::DayClose => return good_ruling(x, Outcome::Done),
+        Request::Discharge => return fit_ruling(x, idle_ruling(q, mode_ruling(mode))),
     }
 }
 

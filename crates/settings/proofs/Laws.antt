@@ -17,8 +17,8 @@ use Rattle.whole.specs.Machine.{fits-of}
 use Rattle.whole.specs.Bits.{arg, drop-need, eq-is, ne-is}
 use Rattle.types.specs.declared.settings.Given.{Given}
 use Rattle.settings.specs.Held.{Held}
-use Rattle.outline.specs.Limits.{countLimit, capacityLimit, zeroRangeLimit, trackTimeLimit, trackWidthLimit, allowanceLimit, stableTimeLeast, stableTimeLimit, stableWidthLimit, delayLimit, flowLimit, addressLimit}
-use Rattle.outline.specs.Settings.{fromTo, within, countsFit, capacityFits, divisionFits, zeroRangeFits, trackingFits, stabilityFits, modeFits, delaysFit, flowFits, addressFits, analogFits, settingsFit}
+use Rattle.outline.specs.Limits.{countLimit, capacityLimit, zeroRangeLimit, trackTimeLimit, trackWidthLimit, allowanceLimit, stableTimeLeast, stableTimeLimit, stableWidthLimit, delayLimit, flowLimit, dischargeLimit, addressLimit}
+use Rattle.outline.specs.Settings.{fromTo, within, countsFit, capacityFits, divisionFits, zeroRangeFits, trackingFits, stabilityFits, modeFits, delaysFit, flowFits, addressFits, analogFits, dischargeFits, settingsFit}
 
 -- ---- numbers and their bits
 -- `x == y` compares the bits: what a branch on it was told
@@ -86,13 +86,16 @@ pub record Narrow (g : Given) : Type 0 where
   pub judge : Cast w16 (g .judge)
   pub flow : Cast w16 (g .flow)
   pub address : Cast w8 (g .address)
+  pub dischargestart : Cast w16 (g .dischargestart)
+  pub dischargeend : Cast w16 (g .dischargeend)
+  pub dischargelimit : Cast w16 (g .dischargelimit)
 
 pub narrow : (g : Given) → Held g → settingsFit g ≡ true → Narrow g
-unfolding settingsFit countsFit capacityFits divisionFits zeroRangeFits trackingFits stabilityFits delaysFit flowFits addressFits
+unfolding settingsFit countsFit capacityFits divisionFits zeroRangeFits trackingFits stabilityFits delaysFit flowFits addressFits dischargeFits
 narrow g f h =
     let r =
     links (countsFit g)
-    (capacityFits g ∷ divisionFits g ∷ zeroRangeFits g ∷ trackingFits g ∷ stabilityFits g ∷ modeFits g ∷ delaysFit g ∷ flowFits g ∷ addressFits g ∷ analogFits g ∷ [])
+    (capacityFits g ∷ divisionFits g ∷ zeroRangeFits g ∷ trackingFits g ∷ stabilityFits g ∷ modeFits g ∷ delaysFit g ∷ flowFits g ∷ addressFits g ∷ analogFits g ∷ dischargeFits g ∷ [])
     h in
     let n = links (within countLimit (g .zero)) (within countLimit (g .span) ∷ leZ (g .weight *ℤ pos 10) (g .span -ℤ g .zero) ∷ []) (r .0) in
     let c = links (fromTo 1 capacityLimit (g .capacity)) (leZ (pos 1) (g .weight) ∷ leZ (g .weight) (g .capacity) ∷ []) (r .1 .0) in
@@ -102,6 +105,9 @@ narrow g f h =
     links (fromTo 0 delayLimit (g .start))
     (fromTo 0 delayLimit (g .large) ∷ fromTo 0 delayLimit (g .medium) ∷ fromTo 0 delayLimit (g .small) ∷ fromTo 0 delayLimit (g .judge) ∷ [])
     (r .1 .1 .1 .1 .1 .1 .1 .0) in
+    let e =
+    links (fromTo 0 delayLimit (g .dischargestart)) (fromTo 0 delayLimit (g .dischargeend) ∷ fromTo 1 dischargeLimit (g .dischargelimit) ∷ [])
+    (r .1 .1 .1 .1 .1 .1 .1 .1 .1 .1 .1 .0) in
     record {
       counts = counts-fit (g .zero) (g .span) (g .weight) (n .0) (n .1 .0) (c .1 .0) (n .1 .1 .0);
       weight = cast-of (f .weight) (weight-fits (g .weight) (g .capacity) (c .1 .0) (c .1 .1 .0) (and-right (leZ (pos 1) (g .capacity)) (leZ (g .capacity) (pos capacityLimit)) (c .0)));
@@ -120,4 +126,7 @@ narrow g f h =
       judge = cast-of (f .judge) (from-to w16 0 delayLimit (g .judge) tt (d .1 .1 .1 .1 .0));
       flow = cast-of (f .flow) (from-to w16 1 flowLimit (g .flow) tt (r .1 .1 .1 .1 .1 .1 .1 .1 .0));
       address = cast-of (f .address) (from-to w8 0 addressLimit (g .address) tt (r .1 .1 .1 .1 .1 .1 .1 .1 .1 .0));
+      dischargestart = cast-of (f .dischargestart) (from-to w16 0 delayLimit (g .dischargestart) tt (e .0));
+      dischargeend = cast-of (f .dischargeend) (from-to w16 0 delayLimit (g .dischargeend) tt (e .1 .0));
+      dischargelimit = cast-of (f .dischargelimit) (from-to w16 1 dischargeLimit (g .dischargelimit) tt (e .1 .1 .0));
     }

@@ -26,3 +26,6 @@ pub record Held (g : Given) : Type 0 where
   pub board : SFits w32 (g .board)
   pub low : SFits w32 (g .low)
   pub high : SFits w32 (g .high)
+  pub dischargestart : SFits w32 (g .dischargestart)
+  pub dischargeend : SFits w32 (g .dischargeend)
+  pub dischargelimit : SFits w32 (g .dischargelimit)

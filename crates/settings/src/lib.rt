@@ -5,6 +5,7 @@ ghost use Rattle.outline.specs.Settings.{settingsFit, modeOf, boardOf, settings
 use types::analog::Board;
 use types::settings::Batching;
 use types::settings::Calibration;
+use types::settings::Discharging;
 use types::settings::Given;
 use types::settings::Mode;
 use types::settings::Opening;
@@ -79,6 +80,17 @@ fn steadiness_of(g: Given) -> Steadiness
     }
 }
 
+fn discharging_of(g: Given) -> Discharging
+    requires { ⌜ settingsFit g ≡ true ⌝ }
+    ensures { λ r. ⌜ r ≡ settingsOf g .batching .discharge ⌝ }
+{
+    Discharging {
+        start: g.dischargestart as u16,
+        end: g.dischargeend as u16,
+        limit: g.dischargelimit as u16,
+    }
+}
+
 fn batching_of(g: Given) -> Batching
     requires { ⌜ settingsFit g ≡ true ⌝ }
     ensures { λ r. ⌜ r ≡ settingsOf g .batching ⌝ }
@@ -91,6 +103,7 @@ fn batching_of(g: Given) -> Batching
         small: g.small as u16,
         judge: g.judge as u16,
         flow: g.flow as u16,
+        discharge: discharging_of(g),
     }
 }
 

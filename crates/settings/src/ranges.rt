@@ -1,7 +1,7 @@
 // The ranges of the settings: a function for each row of the outline's table, asked of any numbers at all.
 // Tests are joined by `&`, which asks them all: each can be asked of any number, and the check has one way through.
 ghost use mathlib.Core.Path.{_≡_};
-ghost use Rattle.outline.specs.Settings.{fromTo, within, countsFit, capacityFits, divisionFits, zeroRangeFits, trackingFits, stabilityFits, modeFits, delaysFit, flowFits, addressFits, analogFits, settingsFit};
+ghost use Rattle.outline.specs.Settings.{fromTo, within, countsFit, capacityFits, divisionFits, zeroRangeFits, trackingFits, stabilityFits, modeFits, delaysFit, flowFits, addressFits, analogFits, dischargeFits, settingsFit};
 use types::settings::Given;
 
 const COUNT_LIMIT: u32 = 2_000_000;
@@ -27,6 +27,8 @@ const STABLE_WIDTH_LIMIT: u32 = 9;
 const DELAY_LIMIT: u32 = 9_999;
 
 const FLOW_LIMIT: u32 = 60_000;
+
+const DISCHARGE_LIMIT: u32 = 60_000;
 
 const ADDRESS_LIMIT: u32 = 99;
 
@@ -136,6 +138,15 @@ fn analog_fits(g: Given) -> bool
     is_from_to(0, 2, board) & is_within(END_LIMIT, low) & is_within(END_LIMIT, high) & (low != high)
 }
 
+// The two delays and the limit of a discharge, which are asked in mode 2 too.
+fn discharge_fits(g: Given) -> bool
+    ensures { λ r. ⌜ r ≡ dischargeFits g ⌝ }
+{
+    is_from_to(0, DELAY_LIMIT, g.dischargestart)
+        & is_from_to(0, DELAY_LIMIT, g.dischargeend)
+        & is_from_to(1, DISCHARGE_LIMIT, g.dischargelimit)
+}
+
 // Every row of the table.
 pub(crate) fn settings_fit(g: Given) -> bool
     ensures { λ r. ⌜ r ≡ settingsFit g ⌝ }
@@ -151,4 +162,5 @@ pub(crate) fn settings_fit(g: Given) -> bool
         & flow_fits(g)
         & address_fits(g)
         & analog_fits(g)
+        & discharge_fits(g)
 }

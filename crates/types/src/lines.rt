@@ -34,6 +34,7 @@ pub enum Word {
     TotalClear,
     Undo,
     DayClose,
+    Discharge,
 }
 
 // What a pair of letters is: a command that stands alone, SS, or neither.

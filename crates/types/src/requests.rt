@@ -14,9 +14,10 @@ pub enum Request {
     ShowGross,
     ShowNet,
     DayClose,
+    Discharge,
 }
 
-// The outline's refusals 1 to 7.
+// The outline's refusals 1 to 7, and 9.
 pub enum Refusal {
     BadTick,
     Overload,
@@ -25,6 +26,7 @@ pub enum Refusal {
     OutsideRules,
     SetpointRules,
     NothingToTakeBack,
+    LossInWeight,
 }
 
 pub enum Outcome {

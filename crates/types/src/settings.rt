@@ -2,7 +2,8 @@
 use crate::analog::Board;
 use crate::analog::Scale;
 
-// Every row of the outline's table, as a number that may lie outside its range. The board's numbers are the house's.
+// Every row of the outline's table, and then those of a discharge, as numbers that may lie outside their ranges. The board's numbers are
+// the house's.
 pub struct Given {
     // zero count Z and span count S
     pub zero: i32,
@@ -36,6 +37,10 @@ pub struct Given {
     pub board: i32,
     pub low: i32,
     pub high: i32,
+    // discharge: start delay, end delay, limit
+    pub dischargestart: i32,
+    pub dischargeend: i32,
+    pub dischargelimit: i32,
 }
 
 // Z; the counts from Z to S, S - Z; W.
@@ -70,7 +75,14 @@ pub enum Mode {
     Loss,
 }
 
-// The mode, the five delays, and the flow limit Q.
+// A discharge: its start delay, end delay and limit.
+pub struct Discharging {
+    pub start: u16,
+    pub end: u16,
+    pub limit: u16,
+}
+
+// The mode, the five delays, the flow limit Q, and what a discharge goes by.
 pub struct Batching {
     pub mode: Mode,
     pub start: u16,
@@ -79,6 +91,7 @@ pub struct Batching {
     pub small: u16,
     pub judge: u16,
     pub flow: u16,
+    pub discharge: Discharging,
 }
 
 // Accepted settings.

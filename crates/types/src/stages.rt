@@ -11,8 +11,8 @@ pub struct Setpoints {
     pub near: u32,
 }
 
-// Stages 00 and 03 to 11. A timed stage holds 0 on entering, and one more after each tick that it stays; the paper's number of the
-// stage says nothing of it.
+// Stages 00, 03 to 11 of a batch, and 14 to 16 of a discharge. A timed stage holds 0 on entering, and one more after each tick that it
+// stays; the paper's number of the stage says nothing of it.
 pub enum Stage {
     Idle,
     StartDelay(u16),
@@ -24,6 +24,9 @@ pub enum Stage {
     SmallFlow,
     JudgeDelay(u16),
     JudgeWait,
+    DischargeStart(u16),
+    Discharge,
+    DischargeEnd(u16),
 }
 
 pub enum Judgement {
@@ -33,7 +36,7 @@ pub enum Judgement {
     Under,
 }
 
-// Errors 1, 2, 4, 6, 9 and 10, or none.
+// Errors 1, 2, 4, 6, 9 and 10, or none; and of a discharge 7 and 8.
 pub enum SequenceError {
     None,
     NoFinal,
@@ -42,11 +45,13 @@ pub enum SequenceError {
     FlowTime,
     BadWeight,
     NotBooked,
+    DischargeStopped,
+    DischargeTime,
 }
 
 pub struct Sequence {
     pub stage: Stage,
-    // the flow clock
+    // the flow clock in 04 to 11, the discharge's in 15 and 16
     pub clock: u16,
     pub error: SequenceError,
     pub judgement: Judgement,
@@ -56,6 +61,7 @@ pub struct Gates {
     pub large: bool,
     pub medium: bool,
     pub small: bool,
+    pub discharge: bool,
 }
 
 // What the sequence asks of a tick's weights.
@@ -70,6 +76,8 @@ pub struct Facts {
     // v is above F + over, below F - under
     pub over: bool,
     pub under: bool,
+    // gross is at most near zero
+    pub empty: bool,
 }
 
 // What a timed stage does at a tick: it is over, or it stays with so many ticks behind it.
@@ -83,6 +91,8 @@ pub enum Move {
     To(Stage),
     Fail(SequenceError),
     Finish(Judgement),
+    // the end of a discharge
+    Emptied,
 }
 
 // The sequence after step 6, and whether a batch finished.

@@ -16,6 +16,9 @@ failed-requires c κs = search needs
 enum-known-m-3 : tie.Need-enum-known-m-3
 enum-known-m-3 c = search needs
 
+enum-told : tie.Need-enum-told
+enum-told c = search needs
+
 returns : tie.Need-returns
 unfolding landOf
 returns c = simp (c .before .m .given .1, c .before .before .before .pre)
@@ -28,6 +31,10 @@ returns-3 : tie.Need-returns-3
 unfolding landOf
 returns-3 c = simp (c .before .m3 .given .1)
 
+returns-4 : tie.Need-returns-4
+unfolding landOf
+returns-4 c = simp (c .enum-told .given .1)
+
 pub landed-spec : {M : Type 1} → statement M
 landed-spec =
     tie.close
@@ -36,6 +43,8 @@ landed-spec =
     enum-known-m-2
     failed-requires
     enum-known-m-3
+    enum-told
     returns
     returns-2
-    returns-3)
+    returns-3
+    returns-4)

@@ -15,7 +15,7 @@ use Rattle.outline.specs.Requests.{grantedOf}
 use Rattle.outline.specs.Numbers.{outcomeNumber}
 use Rattle.outline.proofs.AnswerLaws.{tick-number}
 use Rattle.outline.specs.Tick.{nextOf, tickOf}
-use Rattle.outline.specs.Steps.{partsOf, step-idle, step-on, step-finished, leftOf, left-by, left-nothing, left-zero, left-tare, left-tare-clear, left-start, left-stop, left-set, left-total-clear, left-undo, left-gross, left-net, left-close, Asked, asked-held, asked-stepped, asked-tick}
+use Rattle.outline.specs.Steps.{partsOf, step-idle, step-on, step-finished, leftOf, left-by, left-nothing, left-zero, left-tare, left-tare-clear, left-start, left-stop, left-set, left-total-clear, left-undo, left-gross, left-net, left-close, left-discharge, Asked, asked-held, asked-stepped, asked-tick}
 use Rattle.controller.proofs.tick.Statement.{statement}
 use Rattle.controller.proofs.tick.Tie as tie
 
@@ -100,6 +100,12 @@ enum-told-11 c = search needs
 closed-book-requires : tie.Need-closed-book-requires
 closed-book-requires c κs = search needs
 
+enum-told-12 : tie.Need-enum-told-12
+enum-told-12 c = search needs
+
+discharge-sequence-requires : tie.Need-discharge-sequence-requires
+discharge-sequence-requires c κs = search needs
+
 weigh-requires-2 : tie.Need-weigh-requires-2
 weigh-requires-2 c κs = search needs
 
@@ -168,7 +174,9 @@ left m =
     (λ f. left-by (f .2) (f .3) (f .4) (f .5) (left-gross _ _ _ (f .1 .given .1)))
     (⊎-elim
     (λ f. left-by (f .2) (f .3) (f .4) (f .5) (left-net _ _ _ (f .1 .given .1)))
-    (λ f. left-by (f .4) (f .5) (f .6) (f .7) (left-close _ _ _ (f .1 .given .1) _ (f .3 .ensures)))))))))))))
+    (⊎-elim
+    (λ f. left-by (f .4) (f .5) (f .6) (f .7) (left-close _ _ _ (f .1 .given .1) _ (f .3 .ensures)))
+    (λ f. left-by (f .3) (f .4) (f .5) (f .6) (left-discharge _ _ _ (f .1 .given .1) _ (f .2 .ensures))))))))))))))
     (m .match .came)
 
 parts : (t : tie.After-tracked) →
@@ -214,13 +222,17 @@ stepped : (j : tie.Joined1) →
     j .if1 .st ≡ nextOf (a .s) (a .st) (a .i)
 stepped j =
     let p = parts (j .before) in
+    let x = j .before .before .before .before .weigh2 .result in
     ⊎-elim
     (λ f. asked-stepped p (not-true _ (f .0 .taken)) _
-    (f .8 ∙ step-finished _ _ _ _ _ _ _ refl (f .3 .ensures)
-    (be (got {w = w64} (f .2 .result) (f .2 .ok)) (f .2 .ensures) .read) (f .4 .ensures) _ _ (f .5 .taken) (f .6 .ensures) (f .7 .ensures)))
+    (f .9 ∙ step-finished _ _ _ _ _ _ _ refl (f .3 .ensures)
+    (be (got {w = w64} (f .2 .result) (f .2 .ok)) (f .2 .ensures) .read)
+    (let gross : SFits w32 (x .gross) = search (sfits-of, f .4 .given) in simp (toZ-ofZ gross) at (f .5 .ensures))
+    _ _ (f .6 .taken) (f .7 .ensures) (f .8 .ensures)))
     (⊎-elim
-    (λ o. asked-stepped p (not-true _ (o .0 .taken)) _ (o .7 ∙ step-on _ _ _ _ _ _ _ refl (o .3 .ensures)
-    (be (got {w = w64} (o .2 .result) (o .2 .ok)) (o .2 .ensures) .read) (o .4 .ensures) (o .5 .left)))
+    (λ o. asked-stepped p (not-true _ (o .0 .taken)) _ (o .8 ∙ step-on _ _ _ _ _ _ _ refl (o .3 .ensures)
+    (be (got {w = w64} (o .2 .result) (o .2 .ok)) (o .2 .ensures) .read)
+    (let gross : SFits w32 (x .gross) = search (sfits-of, o .4 .given) in simp (toZ-ofZ gross) at (o .5 .ensures)) (o .6 .left)))
     (⊎-elim
     (λ n. asked-stepped p (not-true _ (n .0 .taken)) _ (n .2 ∙ step-idle _ _ _ (sym (p .idles) ∙ not-false _ (n .1 .left))))
     (λ h. h .1 ∙ asked-held p (not-false _ (h .0 .left)))))
@@ -264,6 +276,8 @@ tick-spec =
     enum-told-10
     enum-told-11
     closed-book-requires
+    enum-told-12
+    discharge-sequence-requires
     weigh-requires-2
     is-idle-requires
     tracked-requires

@@ -1,5 +1,6 @@
 -- `every_line` does nothing; what it ensures is proved beside it, each in its own file. Assumes nothing.
 use Rattle.outline.proofs.GatesRun.{gates-shut}
+use Rattle.outline.proofs.DischargeLaw.{never-together, together-on-line}
 use Rattle.outline.proofs.TicketLaw.{ticket}
 use Rattle.outline.proofs.RunForms.{lines-are-runs}
 use Rattle.outline.proofs.ReadBack.{read-back}
@@ -11,7 +12,7 @@ use Rattle.outline.proofs.every_line.Statement.{statement}
 use Rattle.outline.proofs.every_line.Tie as tie
 
 returns : tie.Need-returns
-returns c = (reply-bounded, (bytes-stay, (answered-in-order, (refused-lines, (read-back-on-line read-back, (gates-on-line gates-shut lines-are-runs, ticket-on-line ticket))))))
+returns c = (reply-bounded, (bytes-stay, (answered-in-order, (refused-lines, (read-back-on-line read-back, (gates-on-line gates-shut lines-are-runs, (ticket-on-line ticket, together-on-line never-together)))))))
 
 pub every-line-spec : {M : Type 1} → statement M
 every-line-spec = tie.close (tie.spec returns)

@@ -142,6 +142,27 @@ good-ruling-requires c κs = search needs
 returns-12 : tie.Need-returns-12
 returns-12 c = simp (c .good-ruling .ensures, c .before .enum-told11 .given .1)
 
+enum-told-12 : tie.Need-enum-told-12
+enum-told-12 c = search needs
+
+mode-ruling-requires : tie.Need-mode-ruling-requires
+mode-ruling-requires c κs = search needs
+
+idle-ruling-requires-4 : tie.Need-idle-ruling-requires-4
+idle-ruling-requires-4 c κs = search needs
+
+fit-ruling-requires-4 : tie.Need-fit-ruling-requires-4
+fit-ruling-requires-4 c κs = search needs
+
+returns-13 : tie.Need-returns-13
+returns-13 c =
+    simp (
+      c .fit-ruling4 .ensures,
+      c .before .idle-ruling4 .ensures,
+      c .before .before .mode-ruling .ensures,
+      c .before .before .before .enum-told12 .given .1,
+    )
+
 pub ruling-spec : {M : Type 1} → statement M
 ruling-spec =
     tie.close
@@ -182,4 +203,9 @@ ruling-spec =
     returns-11
     enum-told-11
     good-ruling-requires
-    returns-12)
+    returns-12
+    enum-told-12
+    mode-ruling-requires
+    idle-ruling-requires-4
+    fit-ruling-requires-4
+    returns-13)

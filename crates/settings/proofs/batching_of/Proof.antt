@@ -35,12 +35,17 @@ cast-t7 c = let n = fits (c .before .before .before .before .before .before .bef
 cast-t8 : tie.Need-cast-t8
 cast-t8 c = let n = fits (c .before .before .before .before .before .before .before .before .before .before .before .before .before .before) in search needs
 
+discharging-of-requires : tie.Need-discharging-of-requires
+discharging-of-requires c κs = c .before .before .before .before .before .before .before .before .before .before .before .before .before .before .pre
+
 returns : tie.Need-returns
 unfolding settingsOf
 returns c =
-    let h = held (c .before .before .before .before .before .before .before .before .before .before .before .before .before .before) in
+    let casts = c .before in
+    let h = held (casts .before .before .before .before .before .before .before .before .before .before .before .before .before .before) in
     simp (
-      c .before .before .before .before .before .before .before .before .before .before .before .before .mode-of .ensures,
+      casts .before .before .before .before .before .before .before .before .before .before .before .before .mode-of .ensures,
+      c .discharging-of .ensures,
       toZ-ofZ (h .mode),
       toZ-ofZ (h .start),
       toZ-ofZ (h .large),
@@ -52,4 +57,4 @@ returns c =
 
 pub batching-of-spec : {M : Type 1} → statement M
 batching-of-spec =
-    tie.close (tie.spec mode-of-requires cast-t3 cast-t4 cast-t5 cast-t6 cast-t7 cast-t8 returns)
+    tie.close (tie.spec mode-of-requires cast-t3 cast-t4 cast-t5 cast-t6 cast-t7 cast-t8 discharging-of-requires returns)

@@ -64,6 +64,24 @@ enum-told-10 c = search needs
 shut-requires-4 : tie.Need-shut-requires-4
 shut-requires-4 c κs = search needs
 
+enum-told-11 : tie.Need-enum-told-11
+enum-told-11 c = search needs
+
+shut-requires-5 : tie.Need-shut-requires-5
+shut-requires-5 c κs = search needs
+
+enum-told-12 : tie.Need-enum-told-12
+enum-told-12 c = search needs
+
+discharge-requires : tie.Need-discharge-requires
+discharge-requires c κs = search needs
+
+enum-told-13 : tie.Need-enum-told-13
+enum-told-13 c = search needs
+
+discharge-requires-2 : tie.Need-discharge-requires-2
+discharge-requires-2 c κs = search needs
+
 returns : tie.Need-returns
 unfolding gatesOf
 returns c = simp (c .shut .ensures, c .before .enum-told .given .1)
@@ -104,6 +122,18 @@ returns-10 : tie.Need-returns-10
 unfolding gatesOf
 returns-10 c = simp (c .shut4 .ensures, c .before .enum-told10 .given .1)
 
+returns-11 : tie.Need-returns-11
+unfolding gatesOf
+returns-11 c = simp (c .shut5 .ensures, c .before .enum-told11 .given .1)
+
+returns-12 : tie.Need-returns-12
+unfolding gatesOf
+returns-12 c = simp (c .discharge .ensures, c .before .enum-told12 .given .1)
+
+returns-13 : tie.Need-returns-13
+unfolding gatesOf
+returns-13 c = simp (c .discharge2 .ensures, c .before .enum-told13 .given .1)
+
 pub open-gates-spec : {M : Type 1} → statement M
 open-gates-spec =
     tie.close
@@ -128,6 +158,12 @@ open-gates-spec =
     shut-requires-3
     enum-told-10
     shut-requires-4
+    enum-told-11
+    shut-requires-5
+    enum-told-12
+    discharge-requires
+    enum-told-13
+    discharge-requires-2
     returns
     returns-2
     returns-3
@@ -137,4 +173,7 @@ open-gates-spec =
     returns-7
     returns-8
     returns-9
-    returns-10)
+    returns-10
+    returns-11
+    returns-12
+    returns-13)

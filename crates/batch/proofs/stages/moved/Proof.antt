@@ -99,6 +99,36 @@ enum-told-10 c = search needs
 judge-requires : tie.Need-judge-requires
 judge-requires c κs = search needs
 
+enum-known-stage-6 : tie.Need-enum-known-stage-6
+enum-known-stage-6 c = search needs
+
+wait-requires-6 : tie.Need-wait-requires-6
+wait-requires-6 c κs = search needs
+
+enum-known-u-6 : tie.Need-enum-known-u-6
+enum-known-u-6 c = search needs
+
+enum-told-11 : tie.Need-enum-told-11
+enum-told-11 c = search needs
+
+enum-told-12 : tie.Need-enum-told-12
+enum-told-12 c = search needs
+
+is-at-near-requires : tie.Need-is-at-near-requires
+is-at-near-requires c κs = search needs
+
+enum-known-stage-7 : tie.Need-enum-known-stage-7
+enum-known-stage-7 c = search needs
+
+wait-requires-7 : tie.Need-wait-requires-7
+wait-requires-7 c κs = search needs
+
+enum-known-u-7 : tie.Need-enum-known-u-7
+enum-known-u-7 c = search needs
+
+enum-told-13 : tie.Need-enum-told-13
+enum-told-13 c = search needs
+
 returns : tie.Need-returns
 unfolding moveOf
 returns c = simp (c .enum-told .given .1)
@@ -109,7 +139,9 @@ returns-2 c = simp (sym (c .before .before .before .wait .ensures) ∙ c .before
 
 returns-3 : tie.Need-returns-3
 unfolding moveOf
-returns-3 c = simp (toZ-ofZ (c .before .before .before .before .before .before .before .fits .v), c .after-start .ensures, sym (c .before .before .before .wait .ensures) ∙ c .before .enum-told2 .given .1, c .before .before .before .before .before .stage .given .1)
+returns-3 c =
+    let start = c .before .before .before .before .before .before .before in
+    simp (toZ-ofZ (start .fits .v), toZ-ofZ (start .fits .gross), c .after-start .ensures, sym (c .before .before .before .wait .ensures) ∙ c .before .enum-told2 .given .1, c .before .before .before .before .before .stage .given .1)
 
 returns-4 : tie.Need-returns-4
 unfolding moveOf
@@ -181,11 +213,41 @@ returns-17 c = simp (sym (c .before .before .wait5 .ensures) ∙ c .enum-told9 .
 
 returns-18 : tie.Need-returns-18
 unfolding moveOf
-returns-18 c = simp (toZ-ofZ (c .before .before .before .before .fits .v), c .judge .ensures, c .before .if4 .taken, c .before .before .enum-told10 .given .1)
+returns-18 c =
+    let start = c .before .before .before .before in
+    simp (toZ-ofZ (start .fits .v), toZ-ofZ (start .fits .gross), c .judge .ensures, c .before .if4 .taken, c .before .before .enum-told10 .given .1)
 
 returns-19 : tie.Need-returns-19
 unfolding moveOf
 returns-19 c = simp (c .if4 .left, c .before .enum-told10 .given .1)
+
+returns-20 : tie.Need-returns-20
+unfolding moveOf
+returns-20 c = simp (sym (c .before .before .before .wait6 .ensures) ∙ c .before .u6 .given .1, c .before .before .before .before .before .stage6 .given .1)
+
+returns-21 : tie.Need-returns-21
+unfolding moveOf
+returns-21 c = simp (sym (c .before .before .wait6 .ensures) ∙ c .enum-told11 .given .1, c .before .before .before .before .stage6 .given .1)
+
+returns-22 : tie.Need-returns-22
+unfolding moveOf
+returns-22 c =
+    let e = simp (toZ-ofZ (c .before .before .before .before .fits .gross)) at (c .before .is-at-near .ensures) in
+    simp (c .if5 .taken, ← e, c .before .before .enum-told12 .given .1)
+
+returns-23 : tie.Need-returns-23
+unfolding moveOf
+returns-23 c =
+    let e = simp (toZ-ofZ (c .before .before .before .before .fits .gross)) at (c .before .is-at-near .ensures) in
+    simp (c .if5 .left, ← e, c .before .before .enum-told12 .given .1)
+
+returns-24 : tie.Need-returns-24
+unfolding moveOf
+returns-24 c = simp (sym (c .before .before .before .wait7 .ensures) ∙ c .before .u7 .given .1, c .before .before .before .before .before .stage7 .given .1)
+
+returns-25 : tie.Need-returns-25
+unfolding moveOf
+returns-25 c = simp (sym (c .before .before .wait7 .ensures) ∙ c .enum-told13 .given .1, c .before .before .before .before .stage7 .given .1)
 
 pub moved-spec : {M : Type 1} → statement M
 moved-spec =
@@ -222,6 +284,16 @@ moved-spec =
     enum-told-9
     enum-told-10
     judge-requires
+    enum-known-stage-6
+    wait-requires-6
+    enum-known-u-6
+    enum-told-11
+    enum-told-12
+    is-at-near-requires
+    enum-known-stage-7
+    wait-requires-7
+    enum-known-u-7
+    enum-told-13
     returns
     returns-2
     returns-3
@@ -240,4 +312,10 @@ moved-spec =
     returns-16
     returns-17
     returns-18
-    returns-19)
+    returns-19
+    returns-20
+    returns-21
+    returns-22
+    returns-23
+    returns-24
+    returns-25)

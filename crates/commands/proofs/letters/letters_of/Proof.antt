@@ -106,17 +106,25 @@ returns-13 : tie.Need-returns-13
 unfolding lettersOf
 returns-13 c = sym (ap named (c .if13 .taken ∙ c .before .letters-for13 .ensures))
 
+letters-for-requires-14 : tie.Need-letters-for-requires-14
+letters-for-requires-14 c κs = search needs
+
 returns-14 : tie.Need-returns-14
 unfolding lettersOf
-returns-14 c = sym (ap named (c .if14 .taken))
+returns-14 c = sym (ap named (c .if14 .taken ∙ c .before .letters-for14 .ensures))
+
+returns-15 : tie.Need-returns-15
+unfolding lettersOf
+returns-15 c = sym (ap named (c .if15 .taken))
 
 other : (a b k : ℕ) → (a ≡ b → ⊥) → b ≡ k → eqb a k ≡ false
 other a b k h e = ne-eqb a k (λ p. h (p ∙ sym e))
 
-returns-15 : tie.Need-returns-15
+returns-16 : tie.Need-returns-16
 unfolding lettersOf
-returns-15 c =
-    let e13 = c .before in
+returns-16 c =
+    let e14 = c .before in
+    let e13 = e14 .before .before in
     let e12 = e13 .before .before in
     let e11 = e12 .before .before in
     let e10 = e11 .before .before in
@@ -137,14 +145,17 @@ returns-15 c =
       other _ _ _ (e5 .if5 .left) (e5 .before .letters-for5 .ensures),
       other _ _ _ (e6 .if6 .left) (e6 .before .letters-for6 .ensures),
       other _ _ _ (e7 .if7 .left) (e7 .before .letters-for7 .ensures),
+    )
+    (simp (
       other _ _ _ (e8 .if8 .left) (e8 .before .letters-for8 .ensures),
       other _ _ _ (e9 .if9 .left) (e9 .before .letters-for9 .ensures),
       other _ _ _ (e10 .if10 .left) (e10 .before .letters-for10 .ensures),
       other _ _ _ (e11 .if11 .left) (e11 .before .letters-for11 .ensures),
       other _ _ _ (e12 .if12 .left) (e12 .before .letters-for12 .ensures),
       other _ _ _ (e13 .if13 .left) (e13 .before .letters-for13 .ensures),
-      ne-eqb _ _ (c .if14 .left),
-    )
+      other _ _ _ (e14 .if14 .left) (e14 .before .letters-for14 .ensures),
+      ne-eqb _ _ (c .if15 .left),
+    ))
 
 pub letters-of-spec : {M : Type 1} → statement M
 letters-of-spec =
@@ -178,5 +189,7 @@ letters-of-spec =
     returns-12
     letters-for-requires-13
     returns-13
+    letters-for-requires-14
     returns-14
-    returns-15)
+    returns-15
+    returns-16)

@@ -146,12 +146,16 @@ stepped j =
     let t = j .before in
     let p = parts t in
     let same : start t .args .st .setpoints ≡ at t .loop .st .setpoints = sym (at t .loop .inv .2) in
+    let x = t .before .before .before .weigh .result in
     ⊎-elim
-    (λ f. f .7 ∙ step-finished _ _ _ _ _ _ _ same (f .2 .ensures)
-    (be (got {w = w64} (f .1 .result) (f .1 .ok)) (f .1 .ensures) .read) (f .3 .ensures) _ _ (f .4 .taken) (f .5 .ensures) (f .6 .ensures))
+    (λ f. f .8 ∙ step-finished _ _ _ _ _ _ _ same (f .2 .ensures)
+    (be (got {w = w64} (f .1 .result) (f .1 .ok)) (f .1 .ensures) .read)
+    (let gross : SFits w32 (x .gross) = search (sfits-of, f .3 .given .1 .1 .1 .1 .1 .0) in simp (toZ-ofZ gross) at (f .4 .ensures))
+    _ _ (f .5 .taken) (f .6 .ensures) (f .7 .ensures))
     (⊎-elim
-    (λ o. o .6 ∙ step-on _ _ _ _ _ _ _ same (o .2 .ensures)
-    (be (got {w = w64} (o .1 .result) (o .1 .ok)) (o .1 .ensures) .read) (o .3 .ensures) (o .4 .left))
+    (λ o. o .7 ∙ step-on _ _ _ _ _ _ _ same (o .2 .ensures)
+    (be (got {w = w64} (o .1 .result) (o .1 .ok)) (o .1 .ensures) .read)
+    (let gross : SFits w32 (x .gross) = search (sfits-of, o .3 .given .1 .1 .1 .1 .1 .0) in simp (toZ-ofZ gross) at (o .4 .ensures)) (o .5 .left))
     (λ n. n .1 ∙ step-idle _ _ _ (sym (p .idles) ∙ not-false _ (n .0 .left))))
     (j .if2 .came)
 

@@ -86,12 +86,16 @@ stepped : (j : tie.Joined1) →
     j .if1 .st ≡ steppedOf (a .s) (partsOf (a .st) (w .before .book-tick .result) (q .steadied .result) (t .tracked .result)) (w .weigh .result)
 stepped j =
     let p = parts (j .before) in
+    let x = j .before .before .before .before .weigh .result in
     ⊎-elim
-    (λ f. f .8 ∙ step-finished _ _ _ _ _ _ _ refl (f .3 .ensures)
-    (be (got {w = w64} (f .2 .result) (f .2 .ok)) (f .2 .ensures) .read) (f .4 .ensures) _ _ (f .5 .taken) (f .6 .ensures) (f .7 .ensures))
+    (λ f. f .9 ∙ step-finished _ _ _ _ _ _ _ refl (f .3 .ensures)
+    (be (got {w = w64} (f .2 .result) (f .2 .ok)) (f .2 .ensures) .read)
+    (let gross : SFits w32 (x .gross) = search (sfits-of, f .4 .given) in simp (toZ-ofZ gross) at (f .5 .ensures))
+    _ _ (f .6 .taken) (f .7 .ensures) (f .8 .ensures))
     (⊎-elim
-    (λ o. o .7 ∙ step-on _ _ _ _ _ _ _ refl (o .3 .ensures)
-    (be (got {w = w64} (o .2 .result) (o .2 .ok)) (o .2 .ensures) .read) (o .4 .ensures) (o .5 .left))
+    (λ o. o .8 ∙ step-on _ _ _ _ _ _ _ refl (o .3 .ensures)
+    (be (got {w = w64} (o .2 .result) (o .2 .ok)) (o .2 .ensures) .read)
+    (let gross : SFits w32 (x .gross) = search (sfits-of, o .4 .given) in simp (toZ-ofZ gross) at (o .5 .ensures)) (o .6 .left))
     (λ n. n .1 ∙ step-idle _ _ _ (sym (p .idles) ∙ not-false _ (n .0 .left))))
     (j .if1 .came)
 

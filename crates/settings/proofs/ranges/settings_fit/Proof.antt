@@ -37,21 +37,25 @@ address-fits-requires c κs = search needs
 analog-fits-requires : tie.Need-analog-fits-requires
 analog-fits-requires c κs = search needs
 
+discharge-fits-requires : tie.Need-discharge-fits-requires
+discharge-fits-requires c κs = search needs
+
 returns : tie.Need-returns
 unfolding settingsFit
 returns c =
     simp (
-      c .before .before .before .before .before .before .before .before .before .before .counts-fit .ensures,
-      c .before .before .before .before .before .before .before .before .before .capacity-fits .ensures,
-      c .before .before .before .before .before .before .before .before .division-fits .ensures,
-      c .before .before .before .before .before .before .before .zero-range-fits .ensures,
-      c .before .before .before .before .before .before .tracking-fits .ensures,
-      c .before .before .before .before .before .stability-fits .ensures,
-      c .before .before .before .before .mode-fits .ensures,
-      c .before .before .before .delays-fit .ensures,
-      c .before .before .flow-fits .ensures,
-      c .before .address-fits .ensures,
-      c .analog-fits .ensures,
+      c .before .before .before .before .before .before .before .before .before .before .before .counts-fit .ensures,
+      c .before .before .before .before .before .before .before .before .before .before .capacity-fits .ensures,
+      c .before .before .before .before .before .before .before .before .before .division-fits .ensures,
+      c .before .before .before .before .before .before .before .before .zero-range-fits .ensures,
+      c .before .before .before .before .before .before .before .tracking-fits .ensures,
+      c .before .before .before .before .before .before .stability-fits .ensures,
+      c .before .before .before .before .before .mode-fits .ensures,
+      c .before .before .before .before .delays-fit .ensures,
+      c .before .before .before .flow-fits .ensures,
+      c .before .before .address-fits .ensures,
+      c .before .analog-fits .ensures,
+      c .discharge-fits .ensures,
     )
 
 pub settings-fit-spec : {M : Type 1} → statement M
@@ -69,4 +73,5 @@ settings-fit-spec =
     flow-fits-requires
     address-fits-requires
     analog-fits-requires
+    discharge-fits-requires
     returns)
