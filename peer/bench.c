@@ -4,7 +4,7 @@
  * The input, in which a number is three bytes, the least first:
  *     the mode: 1 a block's ticks, 2 ticks without a request, 3 ticks with a request, 4 ticks with a line
  *     the rounds
- *     the 22 settings, in the order of the outline's table
+ *     the 25 settings, in the order of the outline's table, the discharge's three behind them
  *     the 7 setpoints, in the order of the command SS
  *     the count of the ticks before the first round
  * then 16 lines of 64 bytes, each a serial command with its CR LF and zeros behind it, and up to three blocks of 4,096 counts.
@@ -16,7 +16,7 @@
 #include <inttypes.h>
 #include <stdio.h>
 
-enum { NUMBER_BYTES = 3, NUMBERS = 32, LINES = 16, LINE_BYTES = 64, BLOCKS = 3, REPLY_ROOM = 64 };
+enum { NUMBER_BYTES = 3, NUMBERS = 2 + SETTING_NUMBERS + 7 + 1, LINES = 16, LINE_BYTES = 64, BLOCKS = 3, REPLY_ROOM = 64 };
 
 /* All of the input. */
 struct input {
@@ -88,8 +88,8 @@ static void look(struct seen *seen, bool refused, const struct outputs *out)
     seen->gross ^= out->gross ^ (out->day_closed ? out->day.opening : 0);
     seen->net ^= out->net;
     seen->flags ^= (uint32_t)out->good | (uint32_t)out->overload << 1 | (uint32_t)out->stable << 2 | (uint32_t)out->large << 3
-        | (uint32_t)out->medium << 4 | (uint32_t)out->small << 5 | (uint32_t)out->near_zero << 6 | (uint32_t)out->full << 7
-        | (uint32_t)(out->analog > 5.0) << 8 | (uint32_t)refused << 9;
+        | (uint32_t)out->medium << 4 | (uint32_t)out->small << 5 | (uint32_t)out->discharge << 6 | (uint32_t)out->near_zero << 7
+        | (uint32_t)out->full << 8 | (uint32_t)(out->analog > 5.0) << 9 | (uint32_t)refused << 10;
 }
 
 /* ---- The modes: the counts of a block each ----------------------------------- */
@@ -159,8 +159,8 @@ static void line_ticks(struct run *run, uint8_t lines[LINES][LINE_BYTES], const 
         size_t replied;
         const int answer = line_tick(&run->s, &run->st, counts[i], false, lines[i % LINES], LINE_BYTES, run->reply, REPLY_ROOM, &replied, &out);
 
-        look(&seen, answer >= ANSWER_BAD_TICK && answer <= ANSWER_NO_UNDO, &out);
-        seen.flags ^= (uint32_t)(answer == ANSWER_DONE) << 10;
+        look(&seen, answer >= ANSWER_BAD_TICK && answer <= ANSWER_MODE, &out);
+        seen.flags ^= (uint32_t)(answer == ANSWER_DONE) << 11;
         seen.replied ^= replied;
     }
     run->seen = seen;
@@ -177,11 +177,11 @@ int main(void)
     static const enum request_kind asked[BLOCKS] = { REQUEST_SETPOINTS, REQUEST_START, REQUEST_STOP };
     const size_t got = fread(&in, 1, sizeof in, stdin);
     const size_t given = got < sizeof in - sizeof in.counts ? 0 : (got - (sizeof in - sizeof in.counts)) / NUMBER_BYTES;
-    const int32_t mode = number(in.numbers[0]), rounds = number(in.numbers[1]), first = number(in.numbers[31]);
-    const uint8_t (*points)[NUMBER_BYTES] = (const uint8_t (*)[NUMBER_BYTES])in.numbers + 24;
+    const int32_t mode = number(in.numbers[0]), rounds = number(in.numbers[1]), first = number(in.numbers[NUMBERS - 1]);
+    const uint8_t (*points)[NUMBER_BYTES] = (const uint8_t (*)[NUMBER_BYTES])in.numbers + 2 + SETTING_NUMBERS;
     struct given g;
 
-    for (size_t i = 0; i < 22; i++)
+    for (size_t i = 0; i < SETTING_NUMBERS; i++)
         g.value[i] = number(in.numbers[2 + i]);
     if (open_controller(&g, &run.s, &run.st) != ANSWER_DONE) {
         puts("refused=10");

@@ -22,6 +22,7 @@ int open_controller(const struct given *g, struct settings *s, struct state *st)
     const int32_t q = v[6], w = v[7], L = v[8], k = v[9], width = v[10], mode = v[11];
     const int32_t start = v[12], large = v[13], medium = v[14], small = v[15], judge = v[16];
     const int32_t Q = v[17], address = v[18], board = v[19], low = v[20], high = v[21];
+    const int32_t discharge_start = v[22], discharge_end = v[23], discharge_limit = v[24];
 
     if (!within(Z, -COUNT_LIMIT, COUNT_LIMIT) || !within(S, -COUNT_LIMIT, COUNT_LIMIT))
         return ANSWER_SETTINGS;
@@ -46,6 +47,10 @@ int open_controller(const struct given *g, struct settings *s, struct state *st)
         return ANSWER_SETTINGS;
     if (!within(low, -999999, 999999) || !within(high, -999999, 999999) || low == high)
         return ANSWER_SETTINGS;
+    if (!within(discharge_start, 0, 9999) || !within(discharge_end, 0, 9999))
+        return ANSWER_SETTINGS;  /* in mode 2 too, though nothing there uses them */
+    if (!within(discharge_limit, 1, 60000))
+        return ANSWER_SETTINGS;
 
     s->zero_count = Z;
     s->span = S - Z;
@@ -67,6 +72,9 @@ int open_controller(const struct given *g, struct settings *s, struct state *st)
     s->small_ticks = at_least_one(small);
     s->judge_ticks = at_least_one(judge);
     s->flow_limit = Q;
+    s->discharge_start_ticks = at_least_one(discharge_start);
+    s->discharge_end_ticks = at_least_one(discharge_end);
+    s->discharge_limit = discharge_limit;
     s->address = address;
     s->board = board;
     s->low = (double)low;
@@ -306,11 +314,16 @@ static int refusal(const struct settings *s, const struct state *st, const struc
     case REQUEST_TARE_CLEAR:
         return st->stage != 0 ? ANSWER_STAGE : ANSWER_DONE;
     case REQUEST_START:
+    case REQUEST_DISCHARGE:
         if (!w->good)
             return ANSWER_BAD_TICK;
         if (w->overload)
             return ANSWER_OVERLOAD;
-        return st->stage != 0 ? ANSWER_STAGE : ANSWER_DONE;
+        if (st->stage != 0)
+            return ANSWER_STAGE;
+        if (r->kind == REQUEST_DISCHARGE && s->mode == MODE_LOSS_IN_WEIGHT)
+            return ANSWER_MODE;
+        return ANSWER_DONE;
     case REQUEST_SETPOINTS:
         if (st->stage != 0)
             return ANSWER_STAGE;
@@ -363,9 +376,14 @@ static void do_request(const struct settings *s, struct state *st, struct weighi
         st->stage = 3;
         st->timer = s->start_ticks;
         break;
+    case REQUEST_DISCHARGE:      /* the judgement stays, and what can be taken back */
+        st->error = 0;
+        st->stage = 14;
+        st->timer = s->discharge_start_ticks;
+        break;
     case REQUEST_STOP:
         if (st->stage != 0)      /* in stage 00 it changes nothing */
-            go_to_error(st, 4);
+            go_to_error(st, st->stage < 14 ? 4 : 7);
         break;
     case REQUEST_SETPOINTS:
         st->setpoints = r->setpoints;
@@ -470,7 +488,37 @@ static void finish(struct state *st, int32_t v)
     book_batch(st, v);
 }
 
-/* Step 6 in stages 03-11: tests error 9, then 6, then the stage.  One move a tick. */
+/* Step 6 in stages 14-16, which error 9 has not ended: tests error 8, then the
+ * stage.  The clock rests in 14, is 0 in the tick that enters 15, and grows through
+ * 16: 001 stops it at near zero. */
+static void discharge(const struct settings *s, struct state *st, const struct weighing *w)
+{
+    if (st->stage >= 15 && ++st->flow_clock > s->discharge_limit) {
+        go_to_error(st, 8);
+        return;
+    }
+    switch (st->stage) {
+    case 14:                     /* start delay, the gate shut */
+        if (timed_out(st)) {
+            st->flow_clock = 0;
+            st->stage = 15;
+        }
+        break;
+    case 15:                     /* gross, not net: the hopper is to be empty */
+        if (w->gross <= st->setpoints.near_zero)
+            enter_timed(st, 16, s->discharge_end_ticks);
+        break;
+    case 16:                     /* end delay */
+        if (timed_out(st)) {
+            st->flow_clock = 0;
+            st->stage = 0;
+        }
+        break;
+    }
+}
+
+/* Step 6 outside stage 00: tests error 9, then 6 in 03-11 or 8 in 14-16, then the
+ * stage.  One move a tick. */
 static void sequence(const struct settings *s, struct state *st, const struct weighing *w)
 {
     const struct setpoints *p = &st->setpoints;
@@ -478,6 +526,10 @@ static void sequence(const struct settings *s, struct state *st, const struct we
 
     if (!w->good || w->overload) {
         go_to_error(st, 9);
+        return;
+    }
+    if (st->stage >= 14) {
+        discharge(s, st, w);
         return;
     }
     if (st->stage >= 4 && ++st->flow_clock > s->flow_limit) {
@@ -565,10 +617,11 @@ static void show(const struct settings *s, const struct state *st, const struct 
     out->stable = w->stable;
     out->stage = stage;
     /* 04-05 all three, 06-07 medium and small, 08-09 small; with P = 0 the
-     * medium gate never opens */
+     * medium gate never opens; 15-16 the discharge gate, and no other */
     out->large = within(stage, 4, 5);
     out->medium = within(stage, 4, 7) && st->setpoints.preliminary != 0;
     out->small = within(stage, 4, 9);
+    out->discharge = within(stage, 15, 16);
     out->judgement = st->judgement;
     out->error = st->error;
     out->near_zero = valid && w->gross <= st->setpoints.near_zero;
@@ -585,12 +638,13 @@ static void show(const struct settings *s, const struct state *st, const struct 
 /* ---- One tick ------------------------------------------------------------ */
 
 /* Steps 5 and 6, after a request that was done (or none).  Step 6 is passed over
- * in a tick with an accepted start, or a stop. */
+ * in a tick with an accepted start or discharge, or a stop. */
 static inline void end_tick(const struct settings *s, struct state *st, const struct weighing *w,
                      enum request_kind done)
 {
     track(s, st, w, done == REQUEST_ZERO);
-    if (st->stage != 0 && done != REQUEST_START && done != REQUEST_STOP)
+    if (st->stage != 0 && done != REQUEST_START && done != REQUEST_DISCHARGE
+        && done != REQUEST_STOP)
         sequence(s, st, w);
 }
 
@@ -704,6 +758,7 @@ static enum command command_of(const uint8_t *letters, enum request_kind *kind)
         { "CA", COMMAND_REQUEST, REQUEST_UNDO },
         { "SS", COMMAND_REQUEST, REQUEST_SETPOINTS },
         { "DC", COMMAND_REQUEST, REQUEST_DAY_CLOSE },
+        { "BD", COMMAND_REQUEST, REQUEST_DISCHARGE },
     };
 
     for (size_t i = 0; i < sizeof commands / sizeof commands[0]; i++) {

@@ -1,6 +1,7 @@
 /* A weighing and batching controller: one scale, normal and loss-in-weight
- * batching, one total, day book, serial commands, analog value.
- * Written by hand from the outline (01-scope.md) and READINGS.md alone.
+ * batching, discharge, one total, day book, serial commands, analog value.
+ * Written by hand from the outline (01-scope.md), the change request A1 and
+ * READINGS.md alone.
  *
  * A tick is 1/100 s.  A tenth is a tenth of a division.  No allocation and no
  * globals: the caller owns settings and state, and passes them by pointer. */
@@ -21,6 +22,7 @@ enum {
     ANSWER_OUTSIDE = 5,
     ANSWER_SETPOINTS = 6,
     ANSWER_NO_UNDO = 7,
+    ANSWER_MODE = 9,             /* a discharge in mode 2 */
     ANSWER_SETTINGS = 10,
     ANSWER_FORM = 11,
     ANSWER_PREFIX = 12,
@@ -43,9 +45,12 @@ enum {
 };
 
 /* The settings as they are asked for, in replay's order:
- * Z S C W d p q w L k s mode start large medium small judge Q address board low high */
+ * Z S C W d p q w L k s mode start large medium small judge Q address board low high,
+ * then the discharge's start delay, end delay and limit */
+enum { SETTING_NUMBERS = 25 };
+
 struct given {
-    int32_t value[22];
+    int32_t value[SETTING_NUMBERS];
 };
 
 /* Settings that were accepted. */
@@ -70,6 +75,9 @@ struct settings {
     int32_t small_ticks;
     int32_t judge_ticks;
     int32_t flow_limit;          /* Q, ticks */
+    int32_t discharge_start_ticks;
+    int32_t discharge_end_ticks;
+    int32_t discharge_limit;     /* ticks */
     int32_t address;             /* 0: no prefix */
     int32_t board;               /* ANALOG_... */
     double low;                  /* low end */
@@ -109,9 +117,9 @@ struct state {
     int64_t unbooked;
 
     /* sequence */
-    int32_t stage;               /* 0, 3..11 */
+    int32_t stage;               /* 0, 3..11, 14..16 */
     int32_t timer;               /* ticks left of a timed stage */
-    int32_t flow_clock;
+    int32_t flow_clock;          /* of the flow; in 15 and 16 of the discharge */
     int32_t error;
     int32_t judgement;
 
@@ -130,6 +138,7 @@ enum request_kind {
     REQUEST_TARE,
     REQUEST_TARE_CLEAR,
     REQUEST_START,
+    REQUEST_DISCHARGE,
     REQUEST_STOP,
     REQUEST_SETPOINTS,
     REQUEST_UNDO,
@@ -145,7 +154,7 @@ struct request {
 };
 
 struct outcome {
-    int number;                  /* 0 done or nothing asked, else 1..7 */
+    int number;                  /* 0 done or nothing asked, else 1..7 or 9 */
 };
 
 /* A day that was ended, tenths. */
@@ -163,7 +172,8 @@ struct outputs {
     int32_t gross, net;
     bool overload, stable;
     int stage;
-    bool large, medium, small;   /* gates */
+    bool large, medium, small;   /* feed gates */
+    bool discharge;              /* gate */
     int judgement;               /* 0 none, 1 ok, 2 over, 3 under */
     int error;
     bool near_zero, full;

@@ -2,7 +2,7 @@
  *
  *   replay [length of the reply buffer, 0..64] < log
  *
- * First line: 22 whole numbers, the settings.  Then `count contact request` lines.
+ * First line: 25 whole numbers, the settings.  Then `count contact request` lines.
  * Exit status: 0; 2 with a bad argument, 3 when reading or writing failed. */
 #include "controller.h"
 
@@ -99,12 +99,12 @@ static bool take_space(const uint8_t **at, const uint8_t *end)
     return true;
 }
 
-/* 22 whole numbers parted by single spaces. */
+/* 25 whole numbers parted by single spaces. */
 static bool read_settings(const uint8_t *line, size_t length, struct given *g)
 {
     const uint8_t *at = line, *end = line + length;
 
-    for (int i = 0; i < 22; i++) {
+    for (int i = 0; i < SETTING_NUMBERS; i++) {
         if (i > 0 && !take_space(&at, end))
             return false;
         if (!take_number(&at, end, &g->value[i]))
@@ -249,6 +249,7 @@ static void write_tick(struct writer *w, int answer, const uint8_t *reply, size_
     *at++ = out->large ? 'L' : '-';
     *at++ = out->medium ? 'M' : '-';
     *at++ = out->small ? 'S' : '-';
+    *at++ = out->discharge ? 'D' : '-';
     at = PUT(at, " judgement=");
     at = put_judgement(at, out->judgement);
     at = PUT(at, " error=");
