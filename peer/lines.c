@@ -6,7 +6,7 @@
 
 const struct line NONE;
 
-static const char *const plain[] = {"RW", "RT", "RS", "MZ", "MT", "CT", "MG", "MN", "BB", "HB", "DT", "CA", "DC"};
+static const char *const plain[] = {"RW", "RT", "RS", "MZ", "MT", "CT", "MG", "MN", "BB", "HB", "DT", "CA", "DC", "BD"};
 
 static const char *any_plain(void)
 {

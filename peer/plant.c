@@ -69,6 +69,14 @@ struct plant usual_plant(void)
     return p;
 }
 
+/* What the open discharge gate lets out in a tick: the outflow, down to the bottom. */
+static int64_t let_out(const struct plant *p)
+{
+    int64_t above = p->weight - p->bottom;
+
+    return above <= 0 ? 0 : above < p->outflow ? above : p->outflow;
+}
+
 /* What the gates of the last tick let through comes to the scale some ticks later, or leaves it. */
 static int64_t next_weight(const struct scenario *s, struct plant *p)
 {
@@ -78,6 +86,8 @@ static int64_t next_weight(const struct scenario *s, struct plant *p)
 
     *slot = flow;
     p->weight += (s->settings.mode == MODE_NORMAL ? arrived : -arrived) - p->leak;
+    if (s->out.discharge)
+        p->weight -= let_out(p);
     int64_t tenths = p->weight / 1000 + between(-p->noise, p->noise);
     return tenths + (s->ticks % 4 < 2 ? p->vibration : -p->vibration);
 }
@@ -136,7 +146,7 @@ void look(struct scenario *s, struct plant *p)
     }
 }
 
-/* Gates whose flow takes some ticks from one setpoint to the next. */
+/* Gates whose flow takes some ticks from one setpoint to the next; should a discharge be going on, it empties the hopper. */
 void fit_flow(const struct scenario *s, struct plant *p)
 {
     const struct setpoints *set = &s->state.setpoints;
@@ -146,6 +156,8 @@ void fit_flow(const struct scenario *s, struct plant *p)
     p->flow[0] = (set->final - least(set->optional, set->final)) * digit / between(3, 40) + 1;
     p->flow[1] = set->final * digit / between(10, 60) + 1;
     p->flow[2] = (set->preliminary > 0 ? set->preliminary : set->final / 2) * digit / between(4, 40) + 1;
+    p->outflow = s->settings.capacity * (int64_t)500 + 1;
+    p->bottom = (s->state.zero - 10) * (int64_t)1000;
     p->fall = between(0, once_in(3) ? FALL_LIMIT - 1 : 3);
     memset(p->in_flight, 0, sizeof p->in_flight);
     p->noise = once_in(2) ? 0 : between(0, still / 2);
@@ -162,4 +174,24 @@ void run_batch(struct scenario *s, struct plant *p)
         pass(s, p, n > 800 ? command(s, "HB") : NONE);
     }
     p->vibration = p->noise = 0;
+}
+
+/* A discharge gate that brings the hopper to near zero, or a little below, in some ticks; now and then a blocked one. */
+void fit_outflow(const struct scenario *s, struct plant *p)
+{
+    int32_t near_zero = least(s->state.setpoints.near_zero, full_scale(s)) / s->settings.division;
+    int64_t level = (s->state.zero + (int64_t)10 * near_zero) * 1000;
+
+    p->bottom = level - ONE_OF(0, 0, 4, 10, 30) * (int64_t)1000;
+    p->outflow = (p->weight > level ? p->weight - level : 0) / between(1, 30) + 1;
+    if (once_in(8))
+        p->outflow = 0;
+}
+
+/* A discharge, and ticks until the stage is 00 again: one that hangs is stopped. */
+void run_discharge(struct scenario *s, struct plant *p)
+{
+    ask(s, p, "BD");
+    for (int32_t n = 0; s->out.stage != 0; n++)
+        pass(s, p, n > 150 ? command(s, "HB") : NONE);
 }

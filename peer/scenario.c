@@ -113,6 +113,9 @@ struct given settings_of(int mode)
     v[ADDRESS] = once_in(2) ? 0 : 1 + turn++ % 99;
     v[BOARD] = between(0, 2);
     draw_ends(v);
+    v[DISCHARGE_START] = ONE_OF(0, 0, 0, 1, 1, 2, 3, 8, 20);
+    v[DISCHARGE_END] = ONE_OF(0, 0, 0, 1, 1, 2, 3, 8, 20);
+    v[DISCHARGE_LIMIT] = once_in(4) ? between(1, 60) : ONE_OF(60, 100, 150, 400, 60000);
     return g;
 }
 

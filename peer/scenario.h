@@ -34,8 +34,10 @@ static inline int32_t most(int32_t a, int32_t b)
 enum setting {                                  /* in replay's order */
     ZERO_COUNT, SPAN_COUNT, CAPACITY, SPAN_WEIGHT, DIVISION, ZERO_RANGE, TRACKING_TIME, TRACKING_WIDTH, ALLOWANCE,
     STABLE_TIME, STABLE_WIDTH, MODE, START_DELAY, LARGE_DISABLE, MEDIUM_DISABLE, SMALL_DISABLE, JUDGE_DELAY, FLOW_LIMIT,
-    ADDRESS, BOARD, LOW_END, HIGH_END, SETTINGS
+    ADDRESS, BOARD, LOW_END, HIGH_END, DISCHARGE_START, DISCHARGE_END, DISCHARGE_LIMIT, SETTINGS
 };
+
+_Static_assert((int)SETTINGS == SETTING_NUMBERS, "a name for each setting");
 
 struct scenario {
     FILE *log;
@@ -95,6 +97,8 @@ enum { FALL_LIMIT = 32 };
 struct plant {
     int64_t weight;                             /* on the scale, thousandths of a tenth */
     int64_t flow[3];                            /* a tick, by the open large, medium and small gate, the same unit */
+    int64_t outflow;                            /* a tick, by the open discharge gate, the same unit */
+    int64_t bottom;                             /* the weight at which nothing flows out any more */
     int32_t fall;                               /* ticks from gate to scale */
     int64_t in_flight[FALL_LIMIT];
     int32_t leak;                               /* a tick, taken all the time */
@@ -112,5 +116,7 @@ void settle(struct scenario *s, struct plant *p);
 void look(struct scenario *s, struct plant *p);                         /* what is read and done between two batches */
 void fit_flow(const struct scenario *s, struct plant *p);
 void run_batch(struct scenario *s, struct plant *p);
+void fit_outflow(const struct scenario *s, struct plant *p);
+void run_discharge(struct scenario *s, struct plant *p);
 
 #endif

@@ -15,9 +15,9 @@
 
 /* ---- Settings ---- */
 
-/* The outline's settings A. */
+/* The outline's settings A; no discharge delays, and the flow limit for the discharge too. */
 static const struct given settings_a = {
-    {0, 100000, 10000, 10000, 1, 2, 100, 5, 20, 100, 2, 1, 0, 0, 0, 0, 0, 6000, 0, 0, 0, 10000}
+    {0, 100000, 10000, 10000, 1, 2, 100, 5, 20, 100, 2, 1, 0, 0, 0, 0, 0, 6000, 0, 0, 0, 10000, 0, 0, 6000}
 };
 
 static int32_t open_with(const char *kind, const struct given *given)
@@ -40,6 +40,24 @@ static int32_t open_a_with(const char *kind, enum setting which, int32_t value)
     return open_with(kind, &given);
 }
 
+/* Settings that mode 2 does not use are checked there too. */
+static int32_t unused_outside(void)
+{
+    static const struct { enum setting which; int32_t value; } outside[] = {
+        {LARGE_DISABLE, 10000}, {DISCHARGE_START, 10000}, {DISCHARGE_START, -1}, {DISCHARGE_END, 10000}, {DISCHARGE_END, -1},
+        {DISCHARGE_LIMIT, 60001}, {DISCHARGE_LIMIT, 0},
+    };
+    int32_t ticks = 0;
+
+    for (size_t i = 0; i < LENGTH(outside); i++) {
+        struct given given = settings_a;
+        given.value[MODE] = MODE_LOSS_IN_WEIGHT;
+        given.value[outside[i].which] = outside[i].value;
+        ticks += open_with("outside, unused", &given);
+    }
+    return ticks;
+}
+
 /* One setting at a time just outside its range, and some far outside. */
 static int32_t settings_outside(void)
 {
@@ -48,6 +66,7 @@ static int32_t settings_outside(void)
         {TRACKING_TIME, 0, 500}, {TRACKING_WIDTH, 0, 45}, {ALLOWANCE, 0, 10000}, {STABLE_TIME, 10, 500}, {STABLE_WIDTH, 0, 9}, {MODE, 1, 2},
         {START_DELAY, 0, 9999}, {LARGE_DISABLE, 0, 9999}, {MEDIUM_DISABLE, 0, 9999}, {SMALL_DISABLE, 0, 9999}, {JUDGE_DELAY, 0, 9999},
         {FLOW_LIMIT, 1, 60000}, {ADDRESS, 0, 99}, {BOARD, 0, 2}, {LOW_END, -999999, 999999}, {HIGH_END, -999999, 999999},
+        {DISCHARGE_START, 0, 9999}, {DISCHARGE_END, 0, 9999}, {DISCHARGE_LIMIT, 1, 60000},
     };
     static const int32_t no_divisions[] = {0, 3, 4, 6, 11, 25, 51, 100, -1};
     int32_t ticks = 0;
@@ -59,6 +78,7 @@ static int32_t settings_outside(void)
     for (size_t i = 0; i < LENGTH(no_divisions); i++)
         ticks += open_a_with("outside", DIVISION, no_divisions[i]);
     ticks += open_a_with("outside", LOW_END, settings_a.value[HIGH_END]);
+    ticks += unused_outside();
     for (int i = 0; i < 6; i++) {
         enum setting which = (enum setting)between(0, SETTINGS - 1);
         ticks += open_a_with("far outside", which, ONE_OF(999999999, -999999999));
@@ -70,8 +90,9 @@ static int32_t settings_outside(void)
 static int32_t settings_at_ends(void)
 {
     static const struct given ends[] = {
-        {{-2000000, -1999990, 1, 1, 1, 1, 0, 0, 0, 10, 0, 1, 0, 0, 0, 0, 0, 1, 0, 0, -999999, 999999}},
-        {{1840000, 2000000, 16000, 16000, 50, 30, 500, 45, 10000, 500, 9, 2, 9999, 9999, 9999, 9999, 9999, 60000, 99, 2, 999999, -999999}},
+        {{-2000000, -1999990, 1, 1, 1, 1, 0, 0, 0, 10, 0, 1, 0, 0, 0, 0, 0, 1, 0, 0, -999999, 999999, 0, 0, 1}},
+        {{1840000, 2000000, 16000, 16000, 50, 30, 500, 45, 10000, 500, 9, 2, 9999, 9999, 9999, 9999, 9999, 60000, 99, 2, 999999, -999999,
+          9999, 9999, 60000}},
     };
     int32_t ticks = 0;
 
@@ -80,22 +101,25 @@ static int32_t settings_at_ends(void)
     return ticks;
 }
 
-/* First lines that are not 22 numbers, and an empty log. */
+/* First lines that are not 25 numbers, and an empty log. */
 static int32_t settings_unread(void)
 {
     static const char *const forms[] = {
-        "0 100000 10000 10000 1 2 100 5 20 100 2 1 0 0 0 0 0 6000 0 0 0",
-        "0 100000 10000 10000 1 2 100 5 20 100 2 1 0 0 0 0 0 6000 0 0 0 10000 0",
-        "0  100000 10000 10000 1 2 100 5 20 100 2 1 0 0 0 0 0 6000 0 0 0 10000",
-        " 0 100000 10000 10000 1 2 100 5 20 100 2 1 0 0 0 0 0 6000 0 0 0 10000",
-        "0 100000 10000 10000 1 2 100 5 20 100 2 1 0 0 0 0 0 6000 0 0 0 10000 ",
-        "0 100000 10000 10000 1 2 100 5 20 100 2 1 0 0 0 0 0 6000 0 0 0 10000\r",
-        "0 100000 10000 10000 1 2 100 5 20 100 2 1 0 0 0 0 0 6000 0 0 0 +10000",
-        "0 100000 10000 10000 1 2 100 5 20 100 2 1 0 0 0 0 0 6000 0 0 0 0000010000",
-        "- 100000 10000 10000 1 2 100 5 20 100 2 1 0 0 0 0 0 6000 0 0 0 10000",
-        "0 100000 10000 10000 1 2 100 5 20 100 2 1 0 0 0 0 0 6000 0 none 0 10000",
-        "0\t100000 10000 10000 1 2 100 5 20 100 2 1 0 0 0 0 0 6000 0 0 0 10000",
-        "\n0 100000 10000 10000 1 2 100 5 20 100 2 1 0 0 0 0 0 6000 0 0 0 10000",
+        "0 100000 10000 10000 1 2 100 5 20 100 2 1 0 0 0 0 0 6000 0 0 0 10000 0 0",
+        "0 100000 10000 10000 1 2 100 5 20 100 2 1 0 0 0 0 0 6000 0 0 0 10000 0 0 6000 0",
+        "0 100000 10000 10000 1 2 100 5 20 100 2 1 0 0 0 0 0 6000 0 0 0 10000",
+        "0  100000 10000 10000 1 2 100 5 20 100 2 1 0 0 0 0 0 6000 0 0 0 10000 0 0 6000",
+        " 0 100000 10000 10000 1 2 100 5 20 100 2 1 0 0 0 0 0 6000 0 0 0 10000 0 0 6000",
+        "0 100000 10000 10000 1 2 100 5 20 100 2 1 0 0 0 0 0 6000 0 0 0 10000 0 0 6000 ",
+        "0 100000 10000 10000 1 2 100 5 20 100 2 1 0 0 0 0 0 6000 0 0 0 10000 0 0 6000\r",
+        "0 100000 10000 10000 1 2 100 5 20 100 2 1 0 0 0 0 0 6000 0 0 0 10000 0 0 +6000",
+        "0 100000 10000 10000 1 2 100 5 20 100 2 1 0 0 0 0 0 6000 0 0 0 10000 0 0 0000006000",
+        "- 100000 10000 10000 1 2 100 5 20 100 2 1 0 0 0 0 0 6000 0 0 0 10000 0 0 6000",
+        "0 100000 10000 10000 1 2 100 5 20 100 2 1 0 0 0 0 0 6000 0 none 0 10000 0 0 6000",
+        "0\t100000 10000 10000 1 2 100 5 20 100 2 1 0 0 0 0 0 6000 0 0 0 10000 0 0 6000",
+        "\n0 100000 10000 10000 1 2 100 5 20 100 2 1 0 0 0 0 0 6000 0 0 0 10000 0 0 6000",
+        "0 100000 10000 10000 1 2 100 5 20 100 2 1 0 0 0 0 0 6000 0 0 0 10000 0 0  6000",
+        "0 100000 10000 10000 1 2 100 5 20 100 2 1 0 0 0 0 0 6000 0 0 0 10000 - 0 6000",
         "0 0 --",
     };
     struct scenario s;
@@ -170,10 +194,12 @@ static void vessel(struct scenario *s)
         fit_flow(s, &p);
         run_batch(s, &p);
         look(s, &p);
+        if (once_in(5))                         /* which a vessel does not do */
+            ask(s, &p, "BD");
     }
 }
 
-/* The comparison that ends this stage; in 10 and 11 one of the judgement's limits. */
+/* The comparison that ends this stage; in 10 and 11 one of the judgement's limits; in 14 to 16 near zero, which is one of gross. */
 static int32_t comparison_of(const struct scenario *s)
 {
     const struct setpoints *set = &s->state.setpoints;
@@ -185,6 +211,9 @@ static int32_t comparison_of(const struct scenario *s)
     case 7: return set->final - set->preliminary;
     case 10:
     case 11: return once_in(2) ? set->final + set->over : set->final - set->under;
+    case 14:
+    case 15:
+    case 16: return set->near_zero - s->state.tare;
     default: return set->final - set->free_fall;
     }
 }
@@ -198,13 +227,15 @@ static void comparisons(struct scenario *s)
 
     g.value[STABLE_TIME] = ONE_OF(10, 10, 12);
     g.value[FLOW_LIMIT] = once_in(3) ? between(10, 60) : 300;
+    g.value[DISCHARGE_LIMIT] = once_in(3) ? between(2, 12) : 60;
     begin(s, &g, usual_room(), between(600, 1500));
     while (more(s)) {
         struct line request = NONE;
         if (rest-- <= 0) {
             int32_t away = s->state.stage == 3 ? -!once_in(4) : between(-1, 1);
             tenths = tenths_of_v(s, comparison_of(s) + away * s->settings.division);
-            rest = s->state.stage >= 10 || once_in(40) ? s->settings.stability_time + between(0, 3) : 0;
+            bool judged = s->state.stage == 10 || s->state.stage == 11;
+            rest = judged || once_in(40) ? s->settings.stability_time + between(0, 3) : 0;
         }
         if (s->state.stage != 0) {
             request = once_in(150) ? stray(s) : NONE;
@@ -212,7 +243,7 @@ static void comparisons(struct scenario *s)
             struct setpoints set = good_setpoints(s, full_scale(s) - s->state.tare);
             request = setpoints_command(s, &set);
         } else {
-            static const char *const letters[] = {"BB", "BB", "BB", "BB", "BB", "MT", "CT", "CA", "RT", "MN"};
+            static const char *const letters[] = {"BB", "BB", "BB", "BB", "BB", "BD", "BD", "MT", "CT", "CA", "RT", "MN"};
             request = command(s, letters[between(0, (int32_t)LENGTH(letters) - 1)]);
         }
         step(s, count_of(s, tenths), once_in(3), request);
@@ -270,7 +301,7 @@ static void faults(struct scenario *s)
     if (turn++ % 2 == 0) {                      /* a disable or judge delay about as long as the flow limit, in turn */
         int which = LARGE_DISABLE + turn / 2 % 4;
         g.value[FLOW_LIMIT] = between(5, 30);
-        g.value[which] = g.value[FLOW_LIMIT] + between(-1, 2);
+        g.value[which] = g.value[FLOW_LIMIT] + between(which == LARGE_DISABLE ? 1 : -1, 2);
         if (which == LARGE_DISABLE)
             g.value[MODE] = MODE_NORMAL;
     }
@@ -383,6 +414,160 @@ static void large_total(struct scenario *s)
 static void last_digit_of_total(struct scenario *s)
 {
     to_the_limit(s, 1);
+}
+
+/* ---- Discharges ---- */
+
+/* Mode 1: a hopper that is discharged after each batch; what is left in it is tared, or is there at the next start. */
+static void emptied_hopper(struct scenario *s)
+{
+    struct given g = settings_of(MODE_NORMAL);
+    struct plant p = usual_plant();
+
+    begin(s, &g, usual_room(), between(800, 2500));
+    while (more(s)) {
+        if (p.weight > s->settings.capacity * (int64_t)5000)    /* what a blocked gate left is taken out by hand */
+            p.weight = between(-3, 12) * (int64_t)1000;
+        settle(s, &p);
+        if (once_in(4))
+            ask(s, &p, "MZ");
+        if (!once_in(3))
+            ask(s, &p, "MT");
+        if (s->state.setpoints.final == 0 || once_in(3)) {
+            struct setpoints set = good_setpoints(s, full_scale(s) / 2);
+            pass(s, &p, setpoints_command(s, &set));
+        }
+        fit_flow(s, &p);
+        run_batch(s, &p);
+        look(s, &p);
+        for (int32_t i = once_in(6) ? 2 : 1; i > 0; i--) {
+            fit_outflow(s, &p);
+            run_discharge(s, &p);
+        }
+        if (once_in(3))
+            ask(s, &p, "CA");
+        look(s, &p);
+    }
+}
+
+/* A batch with the weight at each comparison as it comes, judged at one of the judgement's limits or beside it. */
+static void short_batch(struct scenario *s)
+{
+    int64_t tenths = tenths_of_v(s, 0);
+    int stage = 0;
+
+    step(s, count_of(s, tenths), false, command(s, "BB"));
+    while (s->out.stage != 0) {
+        if (s->out.stage != stage && s->out.stage != 11) {      /* in 11 it comes to rest where it was in 10 */
+            int32_t away = s->out.stage == 3 ? -1 : s->out.stage == 10 ? between(-1, 1) : 0;
+            tenths = tenths_of_v(s, comparison_of(s) + away * s->settings.division);
+        }
+        stage = s->out.stage;
+        step(s, count_of(s, tenths), false, NONE);
+    }
+}
+
+/* Every way through a discharge. In a chosen stage, error 7: the operator stops, in a bad or overloaded tick too, or as the clock
+ * passes its limit; 9: the scale fails or is overloaded, about the limit too. 8: near zero comes too late. Or lines come all the time. */
+enum mishap { NO_MISHAP, HALTED, HALTED_AS_IT_FAILS, HALTED_AT_LIMIT, FAILS, FAILS_AT_LIMIT, ASKED, MISHAPS };
+
+/* Tenths of a gross about near zero. */
+static int64_t about_near_zero(const struct scenario *s, bool above)
+{
+    int32_t divisions = least(s->state.setpoints.near_zero, full_scale(s)) / s->settings.division;
+
+    divisions += above ? ONE_OF(1, 1, 1, 2) : ONE_OF(0, 0, 0, -1, -2);
+    return tenths_of_divisions(s, divisions);
+}
+
+/* One tick of a discharge with a mishap; here: its moment has come. */
+static void discharge_tick(struct scenario *s, enum mishap mishap, bool here, bool above)
+{
+    const int32_t left = s->settings.discharge_limit - s->state.flow_clock;
+    const bool at_limit = s->out.stage >= 15 && left <= between(0, 1);
+    int32_t count = count_of(s, about_near_zero(s, above));
+    struct line request = NONE;
+
+    if (((mishap == FAILS || mishap == HALTED_AS_IT_FAILS) && here) || (mishap == FAILS_AT_LIMIT && at_limit)) {
+        count = once_in(2) ? bad_count() : heavy_count(s);
+        request = once_in(3) ? NONE : once_in(2) ? command(s, "BD") : any_command(s);
+    }
+    if (((mishap == HALTED || mishap == HALTED_AS_IT_FAILS) && here) || (mishap == HALTED_AT_LIMIT && at_limit))
+        request = command(s, "HB");
+    if (mishap == ASKED && !once_in(3))
+        request = once_in(6) ? command(s, "CA") : stray(s);
+    step(s, count, once_in(4), request);
+}
+
+/* BD, and gross above near zero for so many of the ticks in which 15 compares it: for none, until the end delay ends about as the clock
+ * passes its limit, or until it passes it in 15. In 14 and 16 gross does not matter. */
+static void one_discharge(struct scenario *s)
+{
+    const int32_t limit = s->settings.discharge_limit, last = limit - s->settings.discharge_end_ticks;
+    const enum mishap mishap = once_in(5) ? NO_MISHAP : once_in(5) ? ASKED : (enum mishap)between(0, MISHAPS - 1);
+    const int stage = between(14, 16), after = ONE_OF(0, 0, 1, 2);
+    int32_t above = ONE_OF(0, last - 2, last - 1, last - 1, last, last, last + 1, limit - 1, limit, limit + 1);
+    int in_stage = 0;
+    bool full = once_in(2);
+
+    step(s, count_of(s, about_near_zero(s, full)), false, command(s, "BD"));
+    while (s->out.stage >= 14) {
+        const int before = s->out.stage;
+        full = before == 15 ? above-- > 0 : once_in(2);
+        discharge_tick(s, mishap, before == stage && in_stage >= after, full);
+        in_stage = s->out.stage == before ? in_stage + 1 : 0;
+    }
+}
+
+static void discharges(struct scenario *s)
+{
+    static const char *const between_them[] = {"CA", "CA", "RT", "RW", "RS", "MN", "MG", "DT", "DC", "HB", "CT", "BB"};
+    struct given g = settings_of(MODE_NORMAL);
+
+    g.value[STABLE_TIME] = 10;
+    g.value[FLOW_LIMIT] = between(30, 100);
+    g.value[DISCHARGE_START] = ONE_OF(0, 0, 1, 2, 3, 8);
+    g.value[DISCHARGE_END] = ONE_OF(0, 0, 1, 2, 3, 8);
+    g.value[DISCHARGE_LIMIT] = once_in(4) ? between(1, 4) : between(1, 25);
+    begin(s, &g, usual_room(), between(800, 1600));
+    while (more(s)) {
+        if (once_in(4)) {
+            struct setpoints set = good_setpoints(s, full_scale(s) / 2);
+            if (once_in(3))
+                set.near_zero = 0;
+            step(s, count_of(s, s->state.zero), false, setpoints_command(s, &set));
+        }
+        if (once_in(10)) {
+            int64_t tenths = tenths_of_divisions(s, between(0, s->settings.capacity / 2));
+            for (int32_t i = s->settings.stability_time; i >= 0; i--)
+                step(s, count_of(s, tenths), false, i == 0 ? command(s, "MT") : NONE);
+        }
+        if (once_in(4))
+            short_batch(s);
+        for (int32_t i = between(0, 2); i > 0; i--) {
+            bool full = once_in(2);
+            const char *letters = between_them[between(0, (int32_t)LENGTH(between_them) - 1)];
+            step(s, count_of(s, about_near_zero(s, full)), false, command(s, letters));
+        }
+        one_discharge(s);
+    }
+}
+
+/* A delay of a discharge as long as can be, or a blocked gate with the longest limit, in turn. */
+static void longest_discharge(struct scenario *s)
+{
+    static int turn;
+    struct given g = settings_of(MODE_NORMAL);
+    const bool blocked = turn % 3 == 2;
+
+    g.value[DISCHARGE_START] = turn % 3 == 0 ? 9999 : 0;
+    g.value[DISCHARGE_END] = turn % 3 == 1 ? 9999 : 0;
+    g.value[DISCHARGE_LIMIT] = 60000;
+    turn++;
+    begin(s, &g, WHOLE_REPLY, 0);
+    step(s, count_of(s, 0), false, command(s, "BD"));
+    while (s->out.stage != 0)
+        step(s, count_of(s, s->state.zero + (blocked ? 10 : 0)), false, NONE);
 }
 
 /* ---- Weights ---- */
@@ -597,13 +782,15 @@ static const struct kind first[] = {
 static const struct kind turns[] = {
     {"hopper", hopper}, {"vessel", vessel}, {"comparisons", comparisons}, {"faults", faults}, {"short reply", short_reply},
     {"idle tank", idle_tank}, {"feeding tank", feeding_tank}, {"zero and tare", zero_and_tare}, {"sweep", sweep}, {"short reply", short_reply},
-    {"noisy line", noisy_line}, {"large total", large_total}, {"wild", wild}, {"short reply", short_reply},
+    {"emptied hopper", emptied_hopper}, {"discharges", discharges}, {"discharges", discharges}, {"noisy line", noisy_line}, {"large total", large_total},
+    {"wild", wild}, {"short reply", short_reply},
 };
 
 /* Only in a long run, once. */
 static const struct kind seldom[] = {
     {"longest flow", longest_flow}, {"longest delay", longest_delay}, {"longest delay", longest_delay}, {"longest delay", longest_delay},
-    {"longest delay", longest_delay},
+    {"longest delay", longest_delay}, {"longest discharge", longest_discharge}, {"longest discharge", longest_discharge},
+    {"longest discharge", longest_discharge},
 };
 
 enum { LONG_RUN = 2000000 };
