@@ -23,7 +23,7 @@ unfolding ofInt sub mul div add lt nearestN nearestOf limitTo countsFit capacity
 batches = record { stages = refl; gates = refl; late-stages = refl; finish-at-limit = refl; finish-past-limit = refl; late-errors = refl }
 
 pub letters : Letters
-letters = record { rw = refl; rt = refl; rs = refl; mz = refl; mt = refl; ct = refl; mg = refl; mn = refl; bb = refl; hb = refl; dt = refl; ca = refl; dc = refl; ss = refl }
+letters = record { rw = refl; rt = refl; rs = refl; mz = refl; mt = refl; ct = refl; mg = refl; mn = refl; bb = refl; hb = refl; dt = refl; ca = refl; dc = refl; bd = refl; ss = refl }
 
 pub lines : Lines
 unfolding ofInt sub mul div add lt nearestN nearestOf limitTo countsFit capacityFits divisionFits zeroRangeFits trackingFits stabilityFits modeFits delaysFit flowFits addressFits analogFits dischargeFits settingsFit settingsOf openOf rawOf weighOf steadiedOf limitOf bookedOf laterGood bookOf closedOf trackedOf setpointsFit nearOf fullOf factsOf waitOf firstFlow afterStart judgedOf moveOf stopSequence landOf advanceOf gatesOf bookedTotals bookedSequence takenBack rulingOf grantedOf decidedOf betweenOf clipOf analogOf openState enteredOf weightsOf settledOf servedOf withTracking finishedOf steppedOf endedOf nextOf outputsOf tickOf countIn lineEndOf lineOf kindOf prefixLength isPrefixed lettersOf fieldOf fieldsOf decodeOf bodyOf spokenOf commandOf requestOf digitsOf weightText totalText pointsText refusedText framed replyText shownOf replyDue toldOf dueText lineTickOf writtenOf replyBuffer

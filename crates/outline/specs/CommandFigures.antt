@@ -110,6 +110,10 @@ pub record Commanded : Type 0 where
   -- HB: stop, "stop in 03-11, error 4"
   pub hb : said running (pos 0) "HB" ≡ 0 ∷ line "HB"
   pub hb-stage : staged (after running (pos 0) "HB") ≡ 0 ∷ 4 ∷ []
+  -- A1, BD: discharge, enters 14; a stop there is error 7
+  pub bd : said tenSet (pos 0) "BD" ≡ 0 ∷ line "BD"
+  pub bd-stage : staged (after tenSet (pos 0) "BD") ≡ 14 ∷ 0 ∷ []
+  pub bd-then-hb : staged (after (after tenSet (pos 0) "BD") (pos 0) "HB") ≡ 0 ∷ 7 ∷ []
   -- a read asks for nothing: 03 ends and 08 is entered, as without a line
   pub rw : said running (pos 0) "RW" ≡ 0 ∷ weightless
   pub rt : said running (pos 0) "RT" ≡ 0 ∷ line "00000000,00000000"

@@ -130,7 +130,7 @@ ReadBackOnLine = (s : Settings) → Accepted s → (h : History Input) (count : 
     → length (framed (s .address) (figuresOf s receive)) ≤ length buffer′
     → Replied s (runOf s (thenAll after later)) count′ contact′ receive′ buffer′ (framed (s .address) (figuresOf s receive))
 
--- ---- 5. "no gate is open while a sequence error stands": in the answer of every tick with a line
+-- ---- 5. "no gate is open while a sequence error stands", four with the discharge gate (A1): in the answer of every tick with a line
 abbrev pub GatesShutOnLine : Type 0
 GatesShutOnLine = (s : Settings) → Accepted s → (h : History Input) (count : ℤ) (contact : Bool) (receive buffer : List ℕ) →
     let a = lineTickOf s (runOf s h) count contact receive buffer .answer in

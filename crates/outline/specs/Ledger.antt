@@ -21,7 +21,7 @@ use Rattle.outline.specs.Kinds.{Asked, nothing, undo, clear, requestKind
 use Rattle.outline.specs.Run.{History, start, _▷_, runOf}
 
 -- ---- what a tick is to the totals
--- "Step 6 is passed over in a tick with an accepted start, or a stop."
+-- "Step 6 is passed over in a tick with an accepted start, or a stop."; A1: "BD, like BB, .. passes step 6 over"
 abbrev pub passedOver : Settings → State → Input → Bool
 passedOver s st i = doneOf (settledOf s st i .outcome) && requestKind (i .request) .skips
 

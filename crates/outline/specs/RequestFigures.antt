@@ -101,6 +101,10 @@ pub record Asked : Type 0 where
   -- to a start 1, 2, 3
   pub start-bad-running : number running (pos 2000001) request.Start ≡ 1
   pub start-overload-running : number running (pos 110000) request.Start ≡ 2
+  -- A1, to a discharge: "1, 2, 3 as start does"
+  pub discharge-bad-running : number running (pos 2000001) request.Discharge ≡ 1
+  pub discharge-overload-running : number running (pos 110000) request.Discharge ≡ 2
+  pub discharge-running-calm : number runningCalm (pos 0) request.Discharge ≡ 3
   -- 1 and 2 are not to setpoints: they are taken
   pub set-bad : number openState (pos 2000001) (request.Set (setpoints 10 0 0 0)) ≡ 0
   pub set-bad-final : tickAt settings10 openState (pos 2000001) (request.Set (setpoints 10 0 0 0)) .state .setpoints .target ≡ 10
@@ -128,13 +132,13 @@ pub record Asked : Type 0 where
   pub stopped-twice : standing (stateAfter settings10 (leg 2 (pos 0) request.Stop ∷ []) running) ≡ 0 ∷ 4 ∷ 0 ∷ 0 ∷ 0 ∷ []
   pub one-batch : standing oneBatch ≡ 0 ∷ 0 ∷ 1 ∷ 10 ∷ 1 ∷ []
   pub stopped-after-batch : standing (tickAt settings10 oneBatch (pos 100) request.Stop .state) ≡ 0 ∷ 0 ∷ 1 ∷ 10 ∷ 1 ∷ []
-  -- "Step 6 is passed over in a tick with an accepted start, or a stop.", and in no other: 03 goes on to 08
+  -- "Step 6 is passed over in a tick with an accepted start, or a stop." (A1: or an accepted discharge), and in no other: 03 goes on to 08
   pub step-6-accepted :
       stageWith request.Nothing ∷ stageWith request.TotalClear ∷ stageWith request.ShowGross ∷ stageWith request.ShowNet
       ∷ stageWith request.DayClose ∷ []
       ≡ 8 ∷ 8 ∷ 8 ∷ 8 ∷ 8 ∷ []
   pub step-6-refused :
       stageWith request.Zero ∷ stageWith request.Tare ∷ stageWith request.TareClear ∷ stageWith request.Start
-      ∷ stageWith (request.Set (setpoints 10 0 0 0)) ∷ stageWith request.Undo ∷ []
-      ≡ 8 ∷ 8 ∷ 8 ∷ 8 ∷ 8 ∷ 8 ∷ []
+      ∷ stageWith (request.Set (setpoints 10 0 0 0)) ∷ stageWith request.Undo ∷ stageWith request.Discharge ∷ []
+      ≡ 8 ∷ 8 ∷ 8 ∷ 8 ∷ 8 ∷ 8 ∷ 8 ∷ []
   pub step-6-stop : stageWith request.Stop ≡ 0

@@ -22,7 +22,7 @@ use Rattle.outline.specs.DayBook.{openBook, bookOf, closedOf}
 use Rattle.outline.specs.Tick.{openState, countIn, blockOf}
 use Rattle.outline.specs.Numbers.{outcomeNumber, errorNumber, judgementNumber, blockNumber, toldNumber}
 use Rattle.outline.specs.Figures.{minus, givenOf, listA, settingsA, settingsVolts, tickAt, told, next, held, steady, setpoints, oneBatch}
-use Rattle.outline.specs.Worked.{leg, answers, stagesIn, gatesIn, ascii, line, ask, reply, settings7}
+use Rattle.outline.specs.Worked.{leg, answers, stagesIn, gatesIn, shut, ascii, line, ask, reply, settings7}
 
 -- ---- from count to weight
 -- settings A with Z -1,000, and S - Z twice 10·W
@@ -78,6 +78,11 @@ pub record Refused : Type 0 where
   pub start-overload : number openState (pos 110000) request.Start ≡ 2
   pub start-running : number running (pos 0) request.Start ≡ 3
   pub start-unstable : number openState (pos 0) request.Start ≡ 0
+  -- A1: "BD takes 1, 2, 3 as start does"
+  pub discharge-bad : number openState (pos 2000001) request.Discharge ≡ 1
+  pub discharge-overload : number openState (pos 110000) request.Discharge ≡ 2
+  pub discharge-running : number running (pos 0) request.Discharge ≡ 3
+  pub discharge-unstable : number openState (pos 0) request.Discharge ≡ 0
   pub tare-clear-running : number running (pos 0) request.TareClear ≡ 3
   pub tare-clear-bad : number openState (pos 2000001) request.TareClear ≡ 0
   pub set-running : number running (pos 0) (request.Set (setpoints 1 2 0 0)) ≡ 3
@@ -167,7 +172,7 @@ pub record Staged : Type 0 where
   -- 05 goes to 08 where P is 0
   pub large-to-small : stagesIn largeToSmall ≡ 0 ∷ 3 ∷ 4 ∷ 5 ∷ 8 ∷ 9 ∷ []
   -- with P 0 the medium gate never opens: large and small in 04
-  pub no-medium : gatesIn (startWith (setpoints 100 0 0 50) (pos 0) 1) ≡ replicate 2 (0 ∷ 0 ∷ 0 ∷ []) ++ ((4 ∷ 0 ∷ 1 ∷ []) ∷ [])
+  pub no-medium : gatesIn (startWith (setpoints 100 0 0 50) (pos 0) 1) ≡ replicate 2 shut ++ ((4 ∷ 0 ∷ 1 ∷ 0 ∷ []) ∷ [])
   -- mode 2: no large flow, v is what has gone; full while gross is above 90
   pub loss-stages : stagesIn (after 103 loss) ≡ 3 ∷ 6 ∷ 7 ∷ 7 ∷ 8 ∷ 9 ∷ 10 ∷ []
   pub loss-full : fullsIn (after 103 loss) ≡ true ∷ true ∷ true ∷ false ∷ false ∷ false ∷ false ∷ []

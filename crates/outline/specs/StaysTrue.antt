@@ -77,7 +77,7 @@ pub record TotalsOf (s : Settings) (h : History Input) : Type 0 where
 abbrev pub TotalOfBatches : Type 0
 TotalOfBatches = (s : Settings) → Accepted s → (h : History Input) → TotalsOf s h
 
--- ---- 6. "no gate is open while a sequence error stands": in every answer of every tick
+-- ---- 6. "no gate is open while a sequence error stands": in every answer of every tick; A1: "Demand 3 now speaks of four gates."
 abbrev pub GatesShut : Type 0
 GatesShut = (s : Settings) → Accepted s → (h : History Input) (i : Input) →
     let a = tickOf s (runOf s h) i .answer in

@@ -60,26 +60,31 @@ abbrev pub stagesIn : List Answer → List ℕ
 stagesIn [] = []
 stagesIn (a ∷ l) = stageNumber (a .stage) ∷ stagesIn l
 
--- the gates as a number: 4 for large, 2 for medium, 1 for small
+-- the gates as numbers: 4 for large, 2 for medium, 1 for small, 8 for discharge
 abbrev pub bit : Bool → ℕ → ℕ
 bit true n = n
 bit false n = 0
 
 abbrev pub gatesIn : List Answer → List (List ℕ)
 gatesIn [] = []
-gatesIn (a ∷ l) = (bit (a .gates .large) 4 ∷ bit (a .gates .medium) 2 ∷ bit (a .gates .small) 1 ∷ []) ∷ gatesIn l
+gatesIn (a ∷ l) =
+    (bit (a .gates .large) 4 ∷ bit (a .gates .medium) 2 ∷ bit (a .gates .small) 1 ∷ bit (a .gates .discharge) 8 ∷ []) ∷ gatesIn l
 
 abbrev pub shut : List ℕ
-shut = 0 ∷ 0 ∷ 0 ∷ []
+shut = 0 ∷ 0 ∷ 0 ∷ 0 ∷ []
 
 abbrev pub all : List ℕ
-all = 4 ∷ 2 ∷ 1 ∷ []
+all = 4 ∷ 2 ∷ 1 ∷ 0 ∷ []
 
 abbrev pub two : List ℕ
-two = 0 ∷ 2 ∷ 1 ∷ []
+two = 0 ∷ 2 ∷ 1 ∷ 0 ∷ []
 
 abbrev pub one : List ℕ
-one = 0 ∷ 0 ∷ 1 ∷ []
+one = 0 ∷ 0 ∷ 1 ∷ 0 ∷ []
+
+-- A1: the discharge gate, alone
+abbrev pub emptying : List ℕ
+emptying = 0 ∷ 0 ∷ 0 ∷ 8 ∷ []
 
 -- a flow limit of 3: the clock is 0 in the tick that enters 08, and the fourth tick after it is past the limit
 abbrev pub settingsQ3 : Settings
@@ -111,6 +116,7 @@ errorsIn (a ∷ l) = errorNumber (a .error) ∷ errorsIn l
 pub record Batches : Type 0 where
   -- 03 for three ticks, 04 for two, one move a tick; 11 until the run is 10
   pub stages : stagesIn batch ≡ 0 ∷ 3 ∷ 3 ∷ 3 ∷ 4 ∷ 4 ∷ 5 ∷ 6 ∷ 7 ∷ 7 ∷ 8 ∷ 9 ∷ 10 ∷ 10 ∷ 11 ∷ 11 ∷ 11 ∷ 11 ∷ 11 ∷ 11 ∷ 11 ∷ 11 ∷ 0 ∷ []
+  -- A1: a batch leaves the discharge gate shut in every stage
   pub gates :
       gatesIn batch
       ≡ shut ∷ shut ∷ shut ∷ shut ∷ all ∷ all ∷ all ∷ two ∷ two ∷ two ∷ one ∷ one ∷ shut ∷ shut ∷ replicate 9 shut
@@ -159,6 +165,7 @@ pub record Letters : Type 0 where
   pub dt : lettersText (lettersFor word.TotalClear) ≡ ascii "DT"
   pub ca : lettersText (lettersFor word.Undo) ≡ ascii "CA"
   pub dc : lettersText (lettersFor word.DayClose) ≡ ascii "DC"
+  pub bd : lettersText (lettersFor word.Discharge) ≡ ascii "BD"
   pub ss : lettersText setLetters ≡ ascii "SS"
 
 pub record Lines : Type 0 where
