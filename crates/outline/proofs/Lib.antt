@@ -25,6 +25,7 @@ pub mod RequestFigures
 pub mod StageFigures
 pub mod WeightFigures
 pub mod OutputFigures
+pub mod DischargeFigures
 -- what stays true: the book, requests
 pub mod BookStep
 pub mod DaySums

@@ -32,6 +32,7 @@ pub mod RequestFigures
 pub mod StageFigures
 pub mod WeightFigures
 pub mod OutputFigures
+pub mod DischargeFigures
 pub mod Owed
 pub mod AnalogOwed
 -- runs, their histories, and what stays true over them

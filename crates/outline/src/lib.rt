@@ -12,6 +12,7 @@ ghost use Rattle.outline.specs.RequestFigures.{Asked};
 ghost use Rattle.outline.specs.StageFigures.{Sequenced};
 ghost use Rattle.outline.specs.WeightFigures.{Tracked};
 ghost use Rattle.outline.specs.OutputFigures.{Displayed};
+ghost use Rattle.outline.specs.DischargeFigures.{Discharged, Requested};
 ghost use Rattle.outline.specs.Owed.{OpeningLaw, RawLaw, SetpointLaw, TimedLaw};
 ghost use Rattle.outline.specs.AnalogOwed.{ScaleLaw, AnalogLaws};
 ghost use Rattle.outline.specs.EveryLine.{ReplyBounded, BytesStay, AnsweredInOrder, RefusedLines, ReadBackOnLine, GatesShutOnLine, TicketOnLine, NeverTogetherOnLine};
@@ -43,6 +44,8 @@ pub fn paper_holds()
     ensures sequenced { λ r. ⌜ Sequenced ⌝ }
     ensures tracked { λ r. ⌜ Tracked ⌝ }
     ensures displayed { λ r. ⌜ Displayed ⌝ }
+    ensures discharged { λ r. ⌜ Discharged ⌝ }
+    ensures requested { λ r. ⌜ Requested ⌝ }
     ensures opening { λ r. ⌜ OpeningLaw ⌝ }
     ensures raw { λ r. ⌜ RawLaw ⌝ }
     ensures setpoints { λ r. ⌜ SetpointLaw ⌝ }
