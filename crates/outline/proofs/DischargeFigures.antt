@@ -18,6 +18,7 @@ use Rattle.outline.specs.DischargeFigures.{Discharged, Requested}
 pub discharged : Discharged
 unfolding nearestN nearestOf limitTo settingsOf rawOf weighOf steadiedOf limitOf bookedOf laterGood bookOf closedOf trackedOf setpointsFit factsOf waitOf firstFlow afterStart judgedOf moveOf stopSequence landOf advanceOf gatesOf bookedTotals bookedSequence takenBack rulingOf grantedOf decidedOf openState enteredOf weightsOf settledOf servedOf withTracking finishedOf steppedOf endedOf nextOf outputsOf tickOf
 discharged = record {
+  reached = refl;
   delays-0 = refl;
   delays-1 = refl;
   delays-3 = refl;
@@ -53,23 +54,13 @@ discharged = record {
   judged-ok = refl;
   judged-over = refl;
   judged-under = refl;
+  judged-none = refl;
   then-nothing = refl;
   then-undo = refl;
   then-start = refl;
   stopped-batch = refl;
-  day-answers = refl;
-  day-stages = refl;
-  day-gates = refl;
-  day-clocks = refl;
-  day-errors = refl;
-  day-judgements = refl;
-  day-totals = refl;
-  day-counts = refl;
-  day-back = refl;
-  track-stages = refl;
-  track-counters = refl;
-  track-zeroes = refl;
-  track-tracked = refl;
+  day = refl;
+  tracking = refl;
 }
 
 pub requested : Requested
@@ -93,14 +84,6 @@ requested = record {
   overload-14 = refl;
   overload-15 = refl;
   overload-16 = refl;
-  stages-14 = refl;
-  stages-15 = refl;
-  stages-16 = refl;
-  errors-14 = refl;
-  errors-15 = refl;
-  errors-16 = refl;
-  errors-bad = refl;
-  errors-overload = refl;
   calm-answers = refl;
   calm-stable = refl;
   undo-in-15 = refl;

@@ -12,11 +12,17 @@ use Rattle.types.specs.declared.weight.Display.the-variants as display
 use Rattle.types.specs.declared.requests.Request.{Request}
 use Rattle.types.specs.declared.requests.Request.the-variants as request
 use Rattle.types.specs.declared.stages.Setpoints.{Setpoints}
+use Rattle.types.specs.declared.stages.Stage.the-variants as stage
+use Rattle.types.specs.declared.stages.Judgement.{Judgement}
+use Rattle.types.specs.declared.stages.Judgement.the-variants as judgement
+use Rattle.types.specs.declared.stages.SequenceError.the-variants as error
 use Rattle.types.specs.declared.stages.Batch.{Batch}
 use Rattle.types.specs.declared.stages.Batch.the-variants as batch
 use Rattle.types.specs.declared.machine.State.{State}
 use Rattle.types.specs.declared.machine.Answer.{Answer}
+use Rattle.types.specs.declared.machine.Ticked.{Ticked}
 use Rattle.outline.specs.Settings.{settingsOf, openOf}
+use Rattle.outline.specs.Parts.{withSequence}
 use Rattle.outline.specs.Tick.{openState}
 use Rattle.outline.specs.Numbers.{openingNumber, outcomeNumber, stageNumber, errorNumber, judgementNumber, toldNumber, closedValues}
 use Rattle.outline.specs.Figures.{minus, givenOf, listA, tickAt, told, setpoints}
@@ -43,23 +49,39 @@ abbrev pub batchAt : ℤ → List Leg
 batchAt count =
     leg 1 (pos 0) (request.Set points) ∷ leg 1 (pos 0) request.Start ∷ leg 1 (pos 0) request.Nothing ∷ leg 11 count request.Nothing ∷ []
 
--- a batch of 10, OK, then a discharge that was stopped: error 7; that batch can be taken back
-abbrev pub before : Settings → State
-before s = stateAfter s (batchAt (pos 100) ++ (leg 1 (pos 1000) request.Discharge ∷ leg 1 (pos 1000) request.Stop ∷ [])) openState
+-- a batch of 10, OK, then a discharge at 100 that was stopped: error 7; the batch can be taken back
+abbrev pub before : State
+before = record {
+  book = record { begun = true; opening = pos 0; last = pos 1000; refilled = pos 0; used = minus 1000; unbooked = pos 0; ticks = 16 };
+  stability = record { good = true; run = 1 };
+  weighing = record { zero = pos 0; tracked = pos 0; tare = pos 0; counter = 0 };
+  panel = record { display = display.Gross };
+  setpoints = points;
+  sequence = record { stage = stage.Idle; clock = 0; error = error.DischargeStopped; judgement = judgement.Ok };
+  totals = record { total = 10; count = 1; back = batch.Weight 10 };
+}
 
--- the state after each tick, the first one first
-abbrev pub statesOf : Settings → State → ℕ → ℤ → Request → (State → List State) → List State
-statesOf s st zero count r rest = rest st
-statesOf s st (suc n) count r rest =
-    let after = tickAt s st count r .state in
-    after ∷ statesOf s after n count r rest
+-- the ticks of each leg, the first one first
+abbrev pub runFor : Settings → State → ℕ → ℤ → Request → (State → List Ticked) → List Ticked
+runFor s st zero count r rest = rest st
+runFor s st (suc n) count r rest =
+    let tick = tickAt s st count r in
+    tick ∷ runFor s (tick .state) n count r rest
 
-abbrev pub states : Settings → List Leg → State → List State
-states s [] st = []
-states s (l ∷ ls) st = statesOf s st (l .ticks) (l .count) (l .request) (states s ls)
+abbrev pub ticksIn : Settings → List Leg → State → List Ticked
+ticksIn s [] st = []
+ticksIn s (l ∷ ls) st = runFor s st (l .ticks) (l .count) (l .request) (ticksIn s ls)
 
-abbrev pub clocksIn : List State → List ℕ
-clocksIn = map (λ (st : State). st .sequence .clock)
+abbrev pub answersIn : List Ticked → List Answer
+answersIn = map (λ (t : Ticked). t .answer)
+
+abbrev pub clocksIn : List Ticked → List ℕ
+clocksIn = map (λ (t : Ticked). t .state .sequence .clock)
+
+-- the state after the last
+abbrev pub lastOf : State → List Ticked → State
+lastOf st [] = st
+lastOf st (t ∷ ts) = lastOf (t .state) ts
 
 -- what each tick shows; and after the last one stage, error, judgement, total, count
 pub record Course : Type 0 where
@@ -69,18 +91,21 @@ pub record Course : Type 0 where
   pub errors : List ℕ
   pub after : List ℕ
 
-abbrev pub courseFrom : Settings → State → List Leg → Course
-courseFrom s st ls = record {
-  stages = stagesIn (answers s ls st);
-  gates = gatesIn (answers s ls st);
-  clocks = clocksIn (states s ls st);
-  errors = errorsIn (answers s ls st);
-  after = standing (stateAfter s ls st);
+abbrev pub courseOf : State → List Ticked → Course
+courseOf st ts = record {
+  stages = stagesIn (answersIn ts);
+  gates = gatesIn (answersIn ts);
+  clocks = clocksIn ts;
+  errors = errorsIn (answersIn ts);
+  after = standing (lastOf st ts);
 }
+
+abbrev pub courseFrom : Settings → State → List Leg → Course
+courseFrom s st ls = courseOf st (ticksIn s ls st)
 
 -- with this start delay, end delay and limit
 abbrev pub course : ℕ → ℕ → ℕ → List Leg → Course
-course start after limit = courseFrom (settingsOut start after limit) (before (settingsOut start after limit))
+course start after limit = courseFrom (settingsOut start after limit) before
 
 -- BD at 100, n ticks more at 100, then m at 20, which is near zero
 abbrev pub drained : ℕ → ℕ → List Leg
@@ -94,7 +119,7 @@ atNear n = leg 1 (pos 200) request.Discharge ∷ leg n (pos 200) request.Nothing
 abbrev pub behind : ℕ → ℕ → ℕ → ℤ → Request → Course
 behind limit n m count r =
     let s = settingsOut 3 3 limit in
-    courseFrom s (stateAfter s (drained n m) (before s)) (leg 1 count r ∷ leg 1 (pos 1000) request.Nothing ∷ [])
+    courseFrom s (stateAfter s (drained n m) before) (leg 1 count r ∷ leg 1 (pos 1000) request.Nothing ∷ [])
 
 -- in each of 14, 15 and 16
 abbrev pub inEach : ℤ → Request → List Course
@@ -138,17 +163,19 @@ courseD5 =
 abbrev pub judgementsIn : List Answer → List ℕ
 judgementsIn = map (λ (a : Answer). judgementNumber (a .judgement))
 
--- the judgements of a whole discharge, 14, 15, 16 and 00, behind a batch that finished at this count
-abbrev pub judgedBehind : ℤ → List ℕ
-judgedBehind count =
-    let s = settingsOut 0 0 6000 in
-    judgementsIn (answers s (drained 1 2) (stateAfter s (batchAt count) openState))
+-- the judgements of a whole discharge, 14, 15, 16 and 00, behind a batch so judged
+abbrev pub judgedBehind : Judgement → List ℕ
+judgedBehind j =
+    judgementsIn
+    (answersIn
+    (ticksIn (settingsOut 0 0 6000) (drained 1 2)
+    (withSequence before (record { stage = stage.Idle; clock = 0; error = error.None; judgement = j }))))
 
 -- after a discharge and this request
 abbrev pub afterThen : Request → List ℕ
 afterThen r =
     let s = settingsOut 0 0 6000 in
-    standing (stateAfter s (drained 1 2 ++ (leg 1 (pos 0) r ∷ [])) (before s))
+    standing (stateAfter s (drained 1 2 ++ (leg 1 (pos 0) r ∷ [])) before)
 
 -- a batch of 100 and four discharges, all delays 0: one stopped, one with a bad tick, one that ends, one with two undos; then a start
 abbrev pub dayLegs : List Leg
@@ -161,18 +188,36 @@ dayLegs =
     ∷ leg 2 (pos 200) request.Discharge ∷ leg 2 (pos 200) request.Undo ∷ leg 1 (pos 200) request.Nothing
     ∷ leg 1 (pos 0) request.Start ∷ []
 
-abbrev pub day : List Answer
-day = answers (settingsOut 0 0 6000) dayLegs openState
+-- what its ticks show
+pub record Day : Type 0 where
+  pub answers : List ℕ
+  pub stages : List ℕ
+  pub gates : List (List ℕ)
+  pub clocks : List ℕ
+  pub errors : List ℕ
+  pub judgements : List ℕ
+  pub totals : List ℕ
+  pub counts : List ℕ
+  pub back : List Batch
 
-abbrev pub dayStates : List State
-dayStates = states (settingsOut 0 0 6000) dayLegs openState
+abbrev pub dayOf : List Ticked → Day
+dayOf ts = record {
+  answers = map (λ (t : Ticked). outcomeNumber (t .answer .outcome)) ts;
+  stages = stagesIn (answersIn ts);
+  gates = gatesIn (answersIn ts);
+  clocks = clocksIn ts;
+  errors = errorsIn (answersIn ts);
+  judgements = judgementsIn (answersIn ts);
+  totals = map (λ (t : Ticked). t .state .totals .total) ts;
+  counts = map (λ (t : Ticked). t .state .totals .count) ts;
+  back = map (λ (t : Ticked). t .state .totals .back) ts;
+}
 
--- a batch stopped in 08, then a whole discharge
+-- in 08 of the next batch, stopped there; then a whole discharge
 abbrev pub stoppedBatch : Course
 stoppedBatch =
-    let s = settingsOut 0 0 6000 in
-    courseFrom s
-    (stateAfter s (leg 1 (pos 0) (request.Set points) ∷ leg 1 (pos 0) request.Start ∷ leg 1 (pos 0) request.Nothing ∷ []) openState)
+    courseFrom (settingsOut 0 0 6000)
+    (withSequence before (record { stage = stage.SmallDisable 0; clock = 0; error = error.None; judgement = judgement.None }))
     (leg 1 (pos 0) request.Stop ∷ drained 1 2)
 
 -- ---- tracking: q 3, delays of 3, 4 tenths in every tick but the first, which does not count
@@ -187,10 +232,27 @@ trackLegs =
 abbrev pub trackFrom : State
 trackFrom = stateAfter settingsTracked (leg 1 (pos 100) (request.Set points) ∷ []) openState
 
-abbrev pub tracks : List State
-tracks = states settingsTracked trackLegs trackFrom
+-- the counter, the zero in force and what was tracked, after each tick
+pub record Tracks : Type 0 where
+  pub stages : List ℕ
+  pub counters : List ℕ
+  pub zeroes : List ℤ
+  pub tracked : List ℤ
+
+abbrev pub tracksOf : List Ticked → Tracks
+tracksOf ts = record {
+  stages = stagesIn (answersIn ts);
+  counters = map (λ (t : Ticked). t .state .weighing .counter) ts;
+  zeroes = map (λ (t : Ticked). t .state .weighing .zero) ts;
+  tracked = map (λ (t : Ticked). t .state .weighing .tracked) ts;
+}
 
 pub record Discharged : Type 0 where
+  -- the state that most of these begin with is reached
+  pub reached :
+      stateAfter (settingsOut 0 0 6000)
+      (batchAt (pos 100) ++ (leg 1 (pos 1000) request.Discharge ∷ leg 1 (pos 1000) request.Stop ∷ [])) openState
+      ≡ before
   -- "A timed stage of n lasts max(n, 1) ticks": 14 a tick with a delay of 0, and "BD .. passes step 6 over": its tick is that one. "the
   -- discharge gate opens in 15, until gross is at most near zero, and stays open through 16, the end delay." "Its clock is 0 on entering 15
   -- and grows by one each tick through 16". It ends without an error, and with the judgement that it found.
@@ -356,10 +418,11 @@ pub record Discharged : Type 0 where
         errors = 0 ∷ 0 ∷ 0 ∷ 0 ∷ 0 ∷ 9 ∷ [];
         after = 0 ∷ 9 ∷ 1 ∷ 10 ∷ 1 ∷ [];
       }
-  -- "keeps the judgement": OK, over, under, through 14, 15, 16 and the end
-  pub judged-ok : judgedBehind (pos 100) ≡ replicate 4 1
-  pub judged-over : judgedBehind (pos 120) ≡ replicate 4 2
-  pub judged-under : judgedBehind (pos 60) ≡ replicate 4 3
+  -- "keeps the judgement": OK, over, under, none, through 14, 15, 16 and the end
+  pub judged-ok : judgedBehind judgement.Ok ≡ replicate 4 1
+  pub judged-over : judgedBehind judgement.Over ≡ replicate 4 2
+  pub judged-under : judgedBehind judgement.Under ≡ replicate 4 3
+  pub judged-none : judgedBehind judgement.None ≡ replicate 4 0
   -- a discharge is no batch: the undo behind it takes back the batch before it
   pub then-nothing : afterThen request.Nothing ≡ 0 ∷ 0 ∷ 1 ∷ 10 ∷ 1 ∷ []
   pub then-undo : afterThen request.Undo ≡ 0 ∷ 0 ∷ 1 ∷ 0 ∷ 0 ∷ []
@@ -373,42 +436,38 @@ pub record Discharged : Type 0 where
         gates = shut ∷ shut ∷ emptying ∷ emptying ∷ shut ∷ [];
         clocks = 0 ∷ 0 ∷ 0 ∷ 1 ∷ 0 ∷ [];
         errors = 4 ∷ 0 ∷ 0 ∷ 0 ∷ 0 ∷ [];
-        after = 0 ∷ 0 ∷ 0 ∷ 0 ∷ 0 ∷ [];
+        after = 0 ∷ 0 ∷ 0 ∷ 10 ∷ 1 ∷ [];
       }
   -- a batch and its discharges, tick by tick
-  pub day-answers :
-      map (λ (a : Answer). outcomeNumber (a .outcome)) day
-      ≡ 0 ∷ 0 ∷ 0 ∷ 0 ∷ 0 ∷ 0 ∷ 0 ∷ 0 ∷ 0 ∷ 0 ∷ 0 ∷ 0 ∷ 0 ∷ 0 ∷ 0 ∷ 0 ∷ 0 ∷ 0 ∷ 0 ∷ 0 ∷ 0 ∷ 0 ∷ 0 ∷ 0 ∷ 3 ∷ 0 ∷ 0 ∷ 7 ∷ 0 ∷ 0 ∷ []
-  pub day-stages :
-      stagesIn day
-      ≡ 0 ∷ 3 ∷ 8 ∷ 9 ∷ 10 ∷ 11 ∷ 11 ∷ 11 ∷ 11 ∷ 11 ∷ 11 ∷ 11 ∷ 11 ∷ 11 ∷ 0 ∷ 14 ∷ 15 ∷ 0 ∷ 14 ∷ 15 ∷ 0 ∷ 14 ∷ 15 ∷ 16 ∷ 0 ∷ 14
-      ∷ 15 ∷ 16 ∷ 0 ∷ 3 ∷ []
-  pub day-gates :
-      gatesIn day
-      ≡ shut ∷ shut ∷ one ∷ one ∷ shut ∷ shut ∷ shut ∷ shut ∷ shut ∷ shut ∷ shut ∷ shut ∷ shut ∷ shut ∷ shut ∷ shut ∷ emptying
-      ∷ shut ∷ shut ∷ emptying ∷ shut ∷ shut ∷ emptying ∷ emptying ∷ shut ∷ shut ∷ emptying ∷ emptying ∷ shut ∷ shut ∷ []
-  pub day-clocks :
-      clocksIn dayStates
-      ≡ 0 ∷ 0 ∷ 0 ∷ 1 ∷ 2 ∷ 3 ∷ 4 ∷ 5 ∷ 6 ∷ 7 ∷ 8 ∷ 9 ∷ 10 ∷ 11 ∷ 0 ∷ 0 ∷ 0 ∷ 0 ∷ 0 ∷ 0 ∷ 0 ∷ 0 ∷ 0 ∷ 1 ∷ 0 ∷ 0 ∷ 0 ∷ 1 ∷ 0 ∷ 0 ∷ []
-  pub day-errors :
-      errorsIn day
-      ≡ 0 ∷ 0 ∷ 0 ∷ 0 ∷ 0 ∷ 0 ∷ 0 ∷ 0 ∷ 0 ∷ 0 ∷ 0 ∷ 0 ∷ 0 ∷ 0 ∷ 0 ∷ 0 ∷ 0 ∷ 7 ∷ 0 ∷ 0 ∷ 9 ∷ 0 ∷ 0 ∷ 0 ∷ 0 ∷ 0 ∷ 0 ∷ 0 ∷ 0 ∷ 0 ∷ []
-  pub day-judgements :
-      judgementsIn day
-      ≡ 0 ∷ 0 ∷ 0 ∷ 0 ∷ 0 ∷ 0 ∷ 0 ∷ 0 ∷ 0 ∷ 0 ∷ 0 ∷ 0 ∷ 0 ∷ 0 ∷ 1 ∷ 1 ∷ 1 ∷ 1 ∷ 1 ∷ 1 ∷ 1 ∷ 1 ∷ 1 ∷ 1 ∷ 1 ∷ 1 ∷ 1 ∷ 1 ∷ 1 ∷ 0 ∷ []
-  pub day-totals : map (λ (st : State). st .totals .total) dayStates ≡ replicate 14 0 ++ replicate 12 100 ++ replicate 4 0
-  pub day-counts : map (λ (st : State). st .totals .count) dayStates ≡ replicate 14 0 ++ replicate 12 1 ++ replicate 4 0
-  pub day-back :
-      map (λ (st : State). st .totals .back) dayStates
-      ≡ replicate 14 batch.Nothing ++ replicate 12 (batch.Weight 100) ++ replicate 4 batch.Nothing
+  pub day :
+      dayOf (ticksIn (settingsOut 0 0 6000) dayLegs openState)
+      ≡ record {
+        answers = replicate 24 0 ++ (3 ∷ 0 ∷ 0 ∷ 7 ∷ 0 ∷ 0 ∷ []);
+        stages =
+            0 ∷ 3 ∷ 8 ∷ 9 ∷ 10 ∷ 11 ∷ 11 ∷ 11 ∷ 11 ∷ 11 ∷ 11 ∷ 11 ∷ 11 ∷ 11 ∷ 0 ∷ 14 ∷ 15 ∷ 0 ∷ 14 ∷ 15 ∷ 0 ∷ 14 ∷ 15 ∷ 16 ∷ 0 ∷ 14
+            ∷ 15 ∷ 16 ∷ 0 ∷ 3 ∷ [];
+        gates =
+            replicate 2 shut ++ replicate 2 one ++ replicate 12 shut
+            ++ (emptying ∷ shut ∷ shut ∷ emptying ∷ shut ∷ shut ∷ emptying ∷ emptying ∷ shut ∷ shut
+            ∷ emptying ∷ emptying ∷ shut ∷ shut ∷ []);
+        clocks =
+            0 ∷ 0 ∷ 0 ∷ 1 ∷ 2 ∷ 3 ∷ 4 ∷ 5 ∷ 6 ∷ 7 ∷ 8 ∷ 9 ∷ 10 ∷ 11 ∷ 0 ∷ 0 ∷ 0 ∷ 0 ∷ 0 ∷ 0 ∷ 0 ∷ 0 ∷ 0 ∷ 1 ∷ 0 ∷ 0 ∷ 0 ∷ 1 ∷ 0 ∷ 0 ∷ [];
+        errors = 0 ∷ 0 ∷ 0 ∷ 0 ∷ 0 ∷ 0 ∷ 0 ∷ 0 ∷ 0 ∷ 0 ∷ 0 ∷ 0 ∷ 0 ∷ 0 ∷ 0 ∷ 0 ∷ 0 ∷ 7 ∷ 0 ∷ 0 ∷ 9 ∷ 0 ∷ 0 ∷ 0 ∷ 0 ∷ 0 ∷ 0 ∷ 0 ∷ 0 ∷ 0 ∷ [];
+        judgements = replicate 14 0 ++ replicate 15 1 ++ (0 ∷ []);
+        totals = replicate 14 0 ++ replicate 12 100 ++ replicate 4 0;
+        counts = replicate 14 0 ++ replicate 12 1 ++ replicate 4 0;
+        back = replicate 14 batch.Nothing ++ replicate 12 (batch.Weight 100) ++ replicate 4 batch.Nothing;
+      }
   -- "Its counter adds one at a tick that is .. in stage 00 ..; any other tick makes it 0.": tracking rests in 14 to 16. Step 5 is before
   -- step 6, so the tick in which 16 ends does not count; a stop is step 4's, and its tick does.
-  pub track-stages :
-      stagesIn (answers settingsTracked trackLegs trackFrom)
-      ≡ 0 ∷ 0 ∷ 14 ∷ 14 ∷ 14 ∷ 15 ∷ 16 ∷ 16 ∷ 16 ∷ 0 ∷ 0 ∷ 14 ∷ 0 ∷ 0 ∷ 0 ∷ []
-  pub track-counters : map (λ (st : State). st .weighing .counter) tracks ≡ 1 ∷ 2 ∷ 0 ∷ 0 ∷ 0 ∷ 0 ∷ 0 ∷ 0 ∷ 0 ∷ 0 ∷ 1 ∷ 0 ∷ 1 ∷ 2 ∷ 0 ∷ []
-  pub track-zeroes : map (λ (st : State). st .weighing .zero) tracks ≡ replicate 14 (pos 0) ++ (pos 4 ∷ [])
-  pub track-tracked : map (λ (st : State). st .weighing .tracked) tracks ≡ replicate 14 (pos 0) ++ (pos 4 ∷ [])
+  pub tracking :
+      tracksOf (ticksIn settingsTracked trackLegs trackFrom)
+      ≡ record {
+        stages = 0 ∷ 0 ∷ 14 ∷ 14 ∷ 14 ∷ 15 ∷ 16 ∷ 16 ∷ 16 ∷ 0 ∷ 0 ∷ 14 ∷ 0 ∷ 0 ∷ 0 ∷ [];
+        counters = 1 ∷ 2 ∷ 0 ∷ 0 ∷ 0 ∷ 0 ∷ 0 ∷ 0 ∷ 0 ∷ 0 ∷ 1 ∷ 0 ∷ 1 ∷ 2 ∷ 0 ∷ [];
+        zeroes = replicate 14 (pos 0) ++ (pos 4 ∷ []);
+        tracked = replicate 14 (pos 0) ++ (pos 4 ∷ []);
+      }
 
 -- ---- requests
 -- what BD is answered at this count, and the stage and error after it
@@ -436,13 +495,13 @@ feedLegs =
 
 -- in 14, 15 and 16
 abbrev pub in14 : State
-in14 = stateAfter settings3 (drained 0 0) (before settings3)
+in14 = stateAfter settings3 (drained 0 0) before
 
 abbrev pub in15 : State
-in15 = stateAfter settings3 (drained 3 0) (before settings3)
+in15 = stateAfter settings3 (drained 3 0) before
 
 abbrev pub in16 : State
-in16 = stateAfter settings3 (drained 5 1) (before settings3)
+in16 = stateAfter settings3 (drained 5 1) before
 
 -- every request, and setpoints that break the rules beside others that keep them
 abbrev pub every : List Request
@@ -451,31 +510,46 @@ every =
     ∷ request.Discharge ∷ request.Stop ∷ request.TotalClear ∷ request.Undo ∷ request.ShowGross ∷ request.ShowNet ∷ request.DayClose ∷ []
 
 -- what each is answered in such a state at this count, and the stage and the error after each
-abbrev pub answered : State → ℤ → List ℕ
-answered st count = map (λ (r : Request). outcomeNumber (told settings3 st count r .outcome)) every
+pub record Asked : Type 0 where
+  pub answers : List ℕ
+  pub stages : List ℕ
+  pub errors : List ℕ
 
-abbrev pub stagesAfter : State → ℤ → List ℕ
-stagesAfter st count = map (λ (r : Request). stageNumber (told settings3 st count r .stage)) every
+abbrev pub askedOf : List Answer → Asked
+askedOf l = record { answers = map (λ (a : Answer). outcomeNumber (a .outcome)) l; stages = stagesIn l; errors = errorsIn l }
 
-abbrev pub errorsAfter : State → ℤ → List ℕ
-errorsAfter st count = map (λ (r : Request). errorNumber (told settings3 st count r .error)) every
+abbrev pub asked : State → ℤ → Asked
+asked st count = askedOf (map (told settings3 st count) every)
 
-abbrev pub fitAnswers : List ℕ
-fitAnswers = 3 ∷ 3 ∷ 3 ∷ 3 ∷ 3 ∷ 3 ∷ 3 ∷ 0 ∷ 0 ∷ 0 ∷ 0 ∷ 0 ∷ 0 ∷ []
-
-abbrev pub badAnswers : List ℕ
-badAnswers = 1 ∷ 1 ∷ 3 ∷ 1 ∷ 3 ∷ 3 ∷ 1 ∷ 0 ∷ 0 ∷ 0 ∷ 0 ∷ 0 ∷ 1 ∷ []
-
-abbrev pub overloadAnswers : List ℕ
-overloadAnswers = 2 ∷ 2 ∷ 3 ∷ 2 ∷ 3 ∷ 3 ∷ 2 ∷ 0 ∷ 0 ∷ 0 ∷ 0 ∷ 0 ∷ 0 ∷ []
-
--- the stop is the eighth
+-- but for the stop, which is the eighth
 abbrev pub butForStop : ℕ → ℕ → List ℕ
 butForStop n stop = replicate 7 n ++ (stop ∷ replicate 5 n)
 
+-- a fit tick goes on in its stage, a bad or overloaded one ends with error 9; a stop ends with error 7
+abbrev pub askedFit : ℕ → Asked
+askedFit n = record {
+  answers = 3 ∷ 3 ∷ 3 ∷ 3 ∷ 3 ∷ 3 ∷ 3 ∷ 0 ∷ 0 ∷ 0 ∷ 0 ∷ 0 ∷ 0 ∷ [];
+  stages = butForStop n 0;
+  errors = butForStop 0 7;
+}
+
+abbrev pub askedBad : Asked
+askedBad = record {
+  answers = 1 ∷ 1 ∷ 3 ∷ 1 ∷ 3 ∷ 3 ∷ 1 ∷ 0 ∷ 0 ∷ 0 ∷ 0 ∷ 0 ∷ 1 ∷ [];
+  stages = replicate 13 0;
+  errors = butForStop 9 7;
+}
+
+abbrev pub askedOverloaded : Asked
+askedOverloaded = record {
+  answers = 2 ∷ 2 ∷ 3 ∷ 2 ∷ 3 ∷ 3 ∷ 2 ∷ 0 ∷ 0 ∷ 0 ∷ 0 ∷ 0 ∷ 0 ∷ [];
+  stages = replicate 13 0;
+  errors = butForStop 9 7;
+}
+
 -- in 15 with a run of 10: stable
 abbrev pub calm : State
-calm = stateAfter settings3 (drained 14 0) (before settings3)
+calm = stateAfter settings3 (drained 14 0) before
 
 -- in 15, after a tick with this request
 abbrev pub with15 : Request → State
@@ -506,12 +580,12 @@ lossIdle = stateAfter settingsLoss3 (leg 1 (pos 1000) request.Nothing ∷ []) op
 -- BD with room for a reply of n bytes: what it is told, and the stage after it
 abbrev pub toldWithin : ℕ → List ℕ
 toldWithin n =
-    let tick = ask settings3 (before settings3) (pos 1000) (line "BD") n in
+    let tick = ask settings3 before (pos 1000) (line "BD") n in
     toldNumber (tick .told) ∷ stageNumber (tick .state .sequence .stage) ∷ []
 
 pub record Requested : Type 0 where
   -- "BD takes 1, 2, 3 as start does, then 9 in mode 2.": in 00, where error 7 stands; in 09; in 14, 15 and 16
-  pub bid-idle : bids settings3 (before settings3) ≡ (0 ∷ 14 ∷ 0 ∷ []) ∷ (1 ∷ 0 ∷ 7 ∷ []) ∷ (2 ∷ 0 ∷ 7 ∷ []) ∷ []
+  pub bid-idle : bids settings3 before ≡ (0 ∷ 14 ∷ 0 ∷ []) ∷ (1 ∷ 0 ∷ 7 ∷ []) ∷ (2 ∷ 0 ∷ 7 ∷ []) ∷ []
   pub bid-running :
       bids settings3 (stateAfter settings3 feedLegs openState) ≡ (3 ∷ 9 ∷ 0 ∷ []) ∷ (1 ∷ 0 ∷ 9 ∷ []) ∷ (2 ∷ 0 ∷ 9 ∷ []) ∷ []
   pub bid-14 : bids settings3 in14 ≡ (3 ∷ 14 ∷ 0 ∷ []) ∷ (1 ∷ 0 ∷ 9 ∷ []) ∷ (2 ∷ 0 ∷ 9 ∷ []) ∷ []
@@ -527,26 +601,18 @@ pub record Requested : Type 0 where
   pub bid-unstable : bidAt settings3 openState (pos 1000) ≡ 0 ∷ 14 ∷ 0 ∷ []
   pub bid-unstable-tick : told settings3 openState (pos 1000) request.Discharge .reading .stable ≡ false
   -- "| 3 | stage is not 00 |": to zero, tare, tare clear, start, setpoints and BD in 14, 15 and 16; to no other
-  pub fit-14 : answered in14 (pos 1000) ≡ fitAnswers
-  pub fit-15 : answered in15 (pos 1000) ≡ fitAnswers
-  pub fit-16 : answered in16 (pos 1000) ≡ fitAnswers
-  pub bad-14 : answered in14 (pos 2000001) ≡ badAnswers
-  pub bad-15 : answered in15 (pos 2000001) ≡ badAnswers
-  pub bad-16 : answered in16 (pos 2000001) ≡ badAnswers
-  pub overload-14 : answered in14 (pos 110000) ≡ overloadAnswers
-  pub overload-15 : answered in15 (pos 110000) ≡ overloadAnswers
-  pub overload-16 : answered in16 (pos 110000) ≡ overloadAnswers
   -- "the rest of the tick goes on": but for the stop each tick is as without a request
-  pub stages-14 : stagesAfter in14 (pos 1000) ≡ butForStop 14 0
-  pub stages-15 : stagesAfter in15 (pos 1000) ≡ butForStop 15 0
-  pub stages-16 : stagesAfter in16 (pos 1000) ≡ butForStop 16 0
-  pub errors-14 : errorsAfter in14 (pos 1000) ≡ butForStop 0 7
-  pub errors-15 : errorsAfter in15 (pos 1000) ≡ butForStop 0 7
-  pub errors-16 : errorsAfter in16 (pos 1000) ≡ butForStop 0 7
-  pub errors-bad : errorsAfter in15 (pos 2000001) ≡ butForStop 9 7
-  pub errors-overload : errorsAfter in15 (pos 110000) ≡ butForStop 9 7
+  pub fit-14 : asked in14 (pos 1000) ≡ askedFit 14
+  pub fit-15 : asked in15 (pos 1000) ≡ askedFit 15
+  pub fit-16 : asked in16 (pos 1000) ≡ askedFit 16
+  pub bad-14 : asked in14 (pos 2000001) ≡ askedBad
+  pub bad-15 : asked in15 (pos 2000001) ≡ askedBad
+  pub bad-16 : asked in16 (pos 2000001) ≡ askedBad
+  pub overload-14 : asked in14 (pos 110000) ≡ askedOverloaded
+  pub overload-15 : asked in15 (pos 110000) ≡ askedOverloaded
+  pub overload-16 : asked in16 (pos 110000) ≡ askedOverloaded
   -- 3 is before 4 and, where it is stable, before 5
-  pub calm-answers : answered calm (pos 1000) ≡ fitAnswers
+  pub calm-answers : asked calm (pos 1000) ≡ askedFit 15
   pub calm-stable : told settings3 calm (pos 1000) request.Nothing .reading .stable ≡ true
   -- undo, total clear, show net and day close do in 15 what they always do; without a batch there is nothing to take back
   pub undo-in-15 : standing (with15 request.Undo) ≡ 15 ∷ 0 ∷ 1 ∷ 0 ∷ 0 ∷ []
@@ -565,9 +631,9 @@ pub record Requested : Type 0 where
   pub loss-delay-after : delayAnswers 2 23 ≡ 10 ∷ 0 ∷ 0 ∷ 10 ∷ []
   pub loss-limit : limitAnswers 2 ≡ 10 ∷ 0 ∷ 0 ∷ 10 ∷ []
   -- on the line: BD, and NG with the number
-  pub bd : said settings3 (before settings3) (pos 1000) "BD" ≡ 0 ∷ line "BD"
-  pub bd-bad : said settings3 (before settings3) (pos 2000001) "BD" ≡ 1 ∷ line "NG01"
-  pub bd-overload : said settings3 (before settings3) (pos 110000) "BD" ≡ 2 ∷ line "NG02"
+  pub bd : said settings3 before (pos 1000) "BD" ≡ 0 ∷ line "BD"
+  pub bd-bad : said settings3 before (pos 2000001) "BD" ≡ 1 ∷ line "NG01"
+  pub bd-overload : said settings3 before (pos 110000) "BD" ≡ 2 ∷ line "NG02"
   pub bd-under-way : said settings3 in15 (pos 1000) "BD" ≡ 3 ∷ line "NG03"
   pub bd-loss : said settingsLoss3 lossIdle (pos 1000) "BD" ≡ 9 ∷ line "NG09"
   pub bd-prefixed : said settings7 openState (pos 1000) "@07BD" ≡ 0 ∷ line "@07BD"
@@ -575,15 +641,15 @@ pub record Requested : Type 0 where
       said settings7 (ask settings7 openState (pos 1000) (line "@07BD") 64 .state) (pos 1000) "@07BD" ≡ 3 ∷ line "@07NG03"
   pub bd-no-prefix : said settings7 openState (pos 1000) "BD" ≡ 12 ∷ []
   -- 11: "a known command with wrong length"; 13
-  pub bd-letter : said settings3 (before settings3) (pos 1000) "BDX" ≡ 11 ∷ line "NG11"
+  pub bd-letter : said settings3 before (pos 1000) "BDX" ≡ 11 ∷ line "NG11"
   pub bd-digit : said settings3 in15 (pos 1000) "BD1" ≡ 11 ∷ line "NG11"
-  pub bd-lower-case : said settings3 (before settings3) (pos 1000) "bd" ≡ 13 ∷ line "NG13"
-  pub db : said settings3 (before settings3) (pos 1000) "DB" ≡ 13 ∷ line "NG13"
+  pub bd-lower-case : said settings3 before (pos 1000) "bd" ≡ 13 ∷ line "NG13"
+  pub db : said settings3 before (pos 1000) "DB" ≡ 13 ∷ line "NG13"
   -- 14: the reply does not fit, and nothing is done; it comes before 9, whose NG09 takes six bytes
   pub bd-within-3 : toldWithin 3 ≡ 14 ∷ 0 ∷ []
-  pub bd-within-3-buffer : reply settings3 (before settings3) (pos 1000) (line "BD") 3 ≡ room 3
+  pub bd-within-3-buffer : reply settings3 before (pos 1000) (line "BD") 3 ≡ room 3
   pub bd-within-4 : toldWithin 4 ≡ 0 ∷ 14 ∷ []
   pub bd-within-5 : toldWithin 5 ≡ 0 ∷ 14 ∷ []
-  pub bd-within-5-buffer : reply settings3 (before settings3) (pos 1000) (line "BD") 5 ≡ line "BD" ++ (255 ∷ [])
+  pub bd-within-5-buffer : reply settings3 before (pos 1000) (line "BD") 5 ≡ line "BD" ++ (255 ∷ [])
   pub bd-loss-within-5 : toldNumber (ask settingsLoss3 lossIdle (pos 1000) (line "BD") 5 .told) ≡ 14
   pub bd-loss-within-5-buffer : reply settingsLoss3 lossIdle (pos 1000) (line "BD") 5 ≡ room 5
