@@ -10,7 +10,7 @@ use weight::is_fit;
 pub fn is_at_near(p: Setpoints, gross: i32) -> bool
     ensures { λ r. ⌜ r ≡ atMostNear p gross ⌝ }
 {
-    whole::at_most(gross as i64, p.near as i64)
+    (gross as i64) <= (p.near as i64)
 }
 
 // The near-zero output.
