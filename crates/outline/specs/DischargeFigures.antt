@@ -378,6 +378,15 @@ pub record Discharged : Type 0 where
     errors = 0 ∷ 0 ∷ 0 ∷ 0 ∷ [];
     after = 0 ∷ 0 ∷ 1 ∷ 10 ∷ 1 ∷ [];
   }
+  -- "its own limit": a flow limit of 1 is not asked in a discharge, nor a discharge limit of 1 in a batch
+  pub own-limit : courseFrom (settingsOf (givenOf (set (listOut 0 0 6000) 17 (pos 1)))) before (drained 5 3) ≡ record {
+    stages = 14 ∷ 15 ∷ 15 ∷ 15 ∷ 15 ∷ 15 ∷ 16 ∷ 0 ∷ 0 ∷ [];
+    gates = shut ∷ emptying ∷ emptying ∷ emptying ∷ emptying ∷ emptying ∷ emptying ∷ shut ∷ shut ∷ [];
+    clocks = 0 ∷ 0 ∷ 1 ∷ 2 ∷ 3 ∷ 4 ∷ 5 ∷ 0 ∷ 0 ∷ [];
+    errors = 0 ∷ 0 ∷ 0 ∷ 0 ∷ 0 ∷ 0 ∷ 0 ∷ 0 ∷ 0 ∷ [];
+    after = 0 ∷ 0 ∷ 1 ∷ 10 ∷ 1 ∷ [];
+  }
+  pub own-limit-batch : standing (stateAfter (settingsOut 0 0 1) (batchAt (pos 100)) openState) ≡ 0 ∷ 0 ∷ 1 ∷ 10 ∷ 1 ∷ []
   -- "Stop in 14 to 16 is error 7", in a bad and in an overloaded tick too
   pub stop-14 : behind 6000 0 0 (pos 1000) request.Stop ≡ over 7
   pub stop-15 : behind 6000 3 0 (pos 1000) request.Stop ≡ over 7
@@ -611,7 +620,7 @@ pub record Requested : Type 0 where
   pub overload-14 : asked in14 (pos 110000) ≡ askedOverloaded
   pub overload-15 : asked in15 (pos 110000) ≡ askedOverloaded
   pub overload-16 : asked in16 (pos 110000) ≡ askedOverloaded
-  -- 3 is before 4 and, where it is stable, before 5
+  -- 3 where the tick is stable too
   pub calm-answers : asked calm (pos 1000) ≡ askedFit 15
   pub calm-stable : told settings3 calm (pos 1000) request.Nothing .reading .stable ≡ true
   -- undo, total clear, show net and day close do in 15 what they always do; without a batch there is nothing to take back
@@ -645,7 +654,7 @@ pub record Requested : Type 0 where
   pub bd-digit : said settings3 in15 (pos 1000) "BD1" ≡ 11 ∷ line "NG11"
   pub bd-lower-case : said settings3 before (pos 1000) "bd" ≡ 13 ∷ line "NG13"
   pub db : said settings3 before (pos 1000) "DB" ≡ 13 ∷ line "NG13"
-  -- 14: the reply does not fit, and nothing is done; it comes before 9, whose NG09 takes six bytes
+  -- 14: the reply does not fit, and nothing is done; so too where NG09, of six bytes, does not
   pub bd-within-3 : toldWithin 3 ≡ 14 ∷ 0 ∷ []
   pub bd-within-3-buffer : reply settings3 before (pos 1000) (line "BD") 3 ≡ room 3
   pub bd-within-4 : toldWithin 4 ≡ 0 ∷ 14 ∷ []
