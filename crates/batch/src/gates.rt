@@ -5,7 +5,7 @@ use types::stages::Gates;
 use types::stages::Setpoints;
 use types::stages::Stage;
 
-// The open gates: the feed's large, medium and small, and the discharge.
+// The open gates. In the table: large, medium, small, discharge.
 pub fn open_gates(p: Setpoints, stage: Stage) -> Gates
     ensures { λ r. ⌜ r ≡ gatesOf p stage ⌝ }
 {
@@ -27,6 +27,7 @@ pub fn open_gates(p: Setpoints, stage: Stage) -> Gates
     }
 }
 
+// In the order of the table above.
 fn gates(large: bool, medium: bool, small: bool, discharge: bool) -> Gates
     ensures { λ r. ⌜ r ≡ (record { large = large; medium = medium; small = small; discharge = discharge }) ⌝ }
 {

@@ -114,7 +114,8 @@ fn landed(q: Sequence, clock: u16, m: Move) -> Advanced
     }
 }
 
-// Step 6: error 9, then the clock (error 6 or 8), then the stage. `unfit` is a bad or overloaded tick, v the compared weight.
+// Step 6: error 9, then the clock (error 6 or 8), then the stage. `unfit` is a bad or overloaded tick, v the compared weight; gross is in
+// display digits, as v.
 pub fn advance(
     b: Batching,
     p: Setpoints,

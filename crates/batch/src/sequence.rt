@@ -82,7 +82,7 @@ pub(crate) fn failed(q: Sequence, e: SequenceError) -> Sequence
     }
 }
 
-// The error of a stop: 4 in 03 to 11, 7 in 14 to 16. In 00 it is none of either, and is not asked for.
+// The error of a stop: 4 in 03 to 11, 7 in 14 to 16. It is not asked for in 00, where a stop changes nothing.
 fn stop_error(stage: Stage) -> SequenceError
     ensures { λ r. ⌜ r ≡ stopError stage ⌝ }
 {

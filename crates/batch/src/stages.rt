@@ -1,4 +1,4 @@
-// What each stage says of a tick: to which stage the sequence moves, that it fails, or that it finishes.
+// What each stage says of a tick: to which stage the sequence moves, that it fails, that a batch finishes, or that a discharge is over.
 ghost use mathlib.Core.Path.{_≡_};
 ghost use Rattle.outline.specs.Stages.{factsAt, waitOf, afterLarge, firstFlow, afterStart, judgedOf, moveOf};
 use crate::comparison::is_over;

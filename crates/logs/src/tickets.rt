@@ -19,7 +19,7 @@ use types::stages::Totals;
 use types::weight::Weighing;
 use whole::wide;
 
-// Settings A of the outline.
+// Settings A of the outline, with a discharge's.
 pub fn settings_a() -> Given
     ensures { λ r. ⌜ r ≡ givenOf listA ⌝ }
 {

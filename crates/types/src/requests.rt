@@ -17,7 +17,7 @@ pub enum Request {
     Discharge,
 }
 
-// The outline's refusals 1 to 7, and 9.
+// The outline's refusals 1 to 7, and 9 of request A1.
 pub enum Refusal {
     BadTick,
     Overload,

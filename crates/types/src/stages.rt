@@ -1,4 +1,4 @@
-// Setpoints, the batch sequence, and the totals.
+// Setpoints, the sequence of a batch and of a discharge, and the totals.
 
 // In display digits: final F, free fall FF, preliminary P, optional preliminary OP (mode 2: full), over, under, near zero.
 pub struct Setpoints {
@@ -36,7 +36,7 @@ pub enum Judgement {
     Under,
 }
 
-// Errors 1, 2, 4, 6, 9 and 10, or none; and of a discharge 7 and 8.
+// None; of a batch errors 1, 2, 4, 6, 9 and 10; of a discharge 7, 8 and 9.
 pub enum SequenceError {
     None,
     NoFinal,
