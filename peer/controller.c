@@ -168,12 +168,17 @@ static inline bool count_day_tick(struct state *st)
 }
 
 /* The first good tick sets the opening raw; the change at each later one is
- * refilled where the contact is closed, else used, and unbooked past the limit.
- * Gives the change from the last good raw. */
+ * refilled or used, and past the limit unbooked, whatever the contact.  What still
+ * splashes as the valve shuts, up or down, belongs to the refill: a change is
+ * refilled where the contact is closed now or was at the last good tick.  So the
+ * contact is noted in the first good tick and past the limit too, where nothing is
+ * booked, but the next change may be.  Gives the change from the last good raw. */
 static inline int32_t book_good_tick(struct state *st, int32_t raw, bool contact, bool in_day)
 {
+    const bool refill = contact || st->last_contact;
     int32_t change;
 
+    st->last_contact = contact;
     if (!st->any_good) {
         st->any_good = true;
         st->opening = raw;
@@ -184,14 +189,15 @@ static inline int32_t book_good_tick(struct state *st, int32_t raw, bool contact
     st->last = raw;
     if (!in_day)
         st->unbooked -= change;
-    else if (contact)
+    else if (refill)
         st->refilled += change;
     else
         st->used -= change;
     return change;
 }
 
-/* Ends the day; this tick's raw opens the next, its tick count at 0. */
+/* Ends the day; this tick's raw opens the next, its tick count at 0.  The contact
+ * stays noted: the splash of a refill that was on at the close is the next day's. */
 static void close_day(struct state *st, struct outputs *out)
 {
     out->day_closed = true;

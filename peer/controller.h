@@ -1,7 +1,7 @@
 /* A weighing and batching controller: one scale, normal and loss-in-weight
  * batching, discharge, one total, day book, serial commands, analog value.
- * Written by hand from the outline (01-scope.md), the change request A1 and
- * READINGS.md alone.
+ * Written by hand from the outline (01-scope.md), the change requests A1 and
+ * A2 and READINGS.md alone.
  *
  * A tick is 1/100 s.  A tenth is a tenth of a division.  No allocation and no
  * globals: the caller owns settings and state, and passes them by pointer. */
@@ -111,6 +111,7 @@ struct state {
     /* day book, tenths */
     int32_t opening;             /* 0 before any good tick */
     int32_t last;                /* last good raw; 0 before any good tick */
+    bool last_contact;           /* the refill contact was closed at the last good tick */
     int32_t day_ticks;           /* stops at DAY_TICKS */
     int64_t refilled;
     int64_t used;

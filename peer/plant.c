@@ -146,6 +146,41 @@ void look(struct scenario *s, struct plant *p)
     }
 }
 
+/* Bad ticks, often none: their contact says anything, and a day can't be closed in them. */
+static void scale_fails(struct scenario *s)
+{
+    for (int32_t i = ONE_OF(0, 0, 0, 1, 2, 3); i > 0; i--) {
+        bool contact = once_in(2), closing = once_in(6);
+        step(s, bad_count(), contact, closing ? command(s, "DC") : NONE);
+    }
+}
+
+/* The first tick has the contact closed, unless from is 1, the others open, and the weight still changes, up or down: the splash, and what
+ * is used after it. The scale may fail between them, and the day be closed in any. */
+static void swing(struct scenario *s, struct plant *p, int32_t from)
+{
+    const int32_t ticks = between(3, 5), closing = between(0, 5);
+
+    for (int32_t i = from; i < ticks; i++) {
+        p->contact = i == 0;
+        p->weight += between(-9, 9) * (int64_t)1000;
+        pass(s, p, i == closing ? command(s, "DC") : NONE);
+        scale_fails(s);
+    }
+}
+
+void shut_valve(struct scenario *s, struct plant *p)
+{
+    swing(s, p, 0);
+}
+
+/* The scale may fail at first; a tanker may be there then, and is gone soon. */
+void warm_up(struct scenario *s, struct plant *p)
+{
+    scale_fails(s);
+    swing(s, p, between(0, 1));
+}
+
 /* Gates whose flow takes some ticks from one setpoint to the next; should a discharge be going on, it empties the hopper. */
 void fit_flow(const struct scenario *s, struct plant *p)
 {

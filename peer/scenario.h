@@ -114,6 +114,8 @@ void ask(struct scenario *s, struct plant *p, const char *letters);
 void idle(struct scenario *s, struct plant *p, int32_t ticks);
 void settle(struct scenario *s, struct plant *p);
 void look(struct scenario *s, struct plant *p);                         /* what is read and done between two batches */
+void warm_up(struct scenario *s, struct plant *p);                      /* from opening to about the first good tick */
+void shut_valve(struct scenario *s, struct plant *p);                   /* the end of a refill, and its splash */
 void fit_flow(const struct scenario *s, struct plant *p);
 void run_batch(struct scenario *s, struct plant *p);
 void fit_outflow(const struct scenario *s, struct plant *p);

@@ -143,6 +143,7 @@ static void hopper(struct scenario *s)
     struct plant p = usual_plant();
 
     begin(s, &g, usual_room(), between(800, 3000));
+    warm_up(s, &p);
     while (more(s)) {
         p.weight = between(-3, 12) * (int64_t)1000;
         settle(s, &p);
@@ -174,6 +175,7 @@ static void vessel(struct scenario *s)
     const int64_t division = 10000;
 
     begin(s, &g, usual_room(), between(800, 3000));
+    warm_up(s, &p);
     while (more(s)) {
         int64_t full = s->settings.capacity * division * 9 / 10;
         if (p.weight < full / 3) {
@@ -182,7 +184,7 @@ static void vessel(struct scenario *s)
             p.contact = true;
             idle(s, &p, ticks);
             p.leak = 0;
-            p.contact = false;
+            shut_valve(s, &p);
         }
         settle(s, &p);
         if (!once_in(6))
@@ -425,6 +427,7 @@ static void emptied_hopper(struct scenario *s)
     struct plant p = usual_plant();
 
     begin(s, &g, usual_room(), between(800, 2500));
+    warm_up(s, &p);
     while (more(s)) {
         if (p.weight > s->settings.capacity * (int64_t)5000)    /* what a blocked gate left is taken out by hand */
             p.weight = between(-3, 12) * (int64_t)1000;
@@ -586,6 +589,7 @@ static void idle_tank(struct scenario *s)
     g.value[TRACKING_WIDTH] = w;
     g.value[ALLOWANCE] = once_in(3) ? 10000 : between(0, 12 * w);
     begin(s, &g, usual_room(), between(600, 2000));
+    warm_up(s, &p);
     p.stray = ONE_OF(0, 0, 60);
     while (more(s)) {
         int32_t change = once_in(3) ? between(0, w) : ONE_OF(w, w, w + 1);
@@ -614,9 +618,8 @@ static void feeding_tank(struct scenario *s)
 
     begin(s, &g, usual_room(), between(1000, 3000));
     const int64_t full = s->settings.capacity * (int64_t)9000;
-    for (int32_t i = between(0, 2); i > 0; i--) /* the scale warms up */
-        step(s, bad_count(), true, NONE);
     p.weight = full;
+    warm_up(s, &p);
     while (more(s)) {
         bool low = p.weight < full / 4;
         int32_t rate = (int32_t)(full / ONE_OF(200, 500, 2000, 20000)) + 1;
@@ -626,6 +629,8 @@ static void feeding_tank(struct scenario *s)
         idle(s, &p, between(20, 200));
         look(s, &p);
         ask(s, &p, once_in(2) ? "DC" : "RW");
+        if (p.contact && !once_in(4))
+            shut_valve(s, &p);
     }
 }
 
@@ -747,7 +752,9 @@ static void wild(struct scenario *s)
 
 /* ---- The long day ---- */
 
-/* Past the last tick that is booked, by some; the scale works from the start, or only after that tick. */
+/* Past the last tick that is booked, by some; the scale works from the start, or only after that tick. In the one a refill ends with that
+ * tick, and its splash comes too late to be booked; the day is then closed with the contact open again, and what follows is used. In the
+ * other it is closed with the contact closed, and the splash comes after bad ticks, in the next day. */
 static int32_t long_day(bool fails)
 {
     struct scenario s;
@@ -758,11 +765,19 @@ static int32_t long_day(bool fails)
         bool near = s.ticks % DAY_TICKS < 300 || s.ticks > DAY_TICKS - 300;
         int32_t count = bad ? bad_count() : between(0, 50000);
         bool contact = once_in(3);
+        if (!fails && (s.ticks == DAY_TICKS - 1 || s.ticks == DAY_TICKS)) {
+            contact = s.ticks == DAY_TICKS - 1; /* the last tick that is booked, and the first that is not */
+            count = contact ? 20000 : 20500;
+        }
         step(&s, count, contact, near && once_in(50) ? command(&s, s.ticks < DAY_TICKS - 300 ? "RW" : "RT") : NONE);
     }
-    step(&s, 1000, true, command(&s, "DC"));
+    step(&s, 1200, true, NONE);
+    step(&s, 1000, fails, command(&s, "DC"));
+    for (int i = 0; fails && i < 2; i++)
+        step(&s, bad_count(), false, NONE);
     step(&s, 900, false, NONE);
     step(&s, 1100, true, command(&s, "DC"));
+    step(&s, 1150, false, NONE);
     return end(&s, "long day");
 }
 

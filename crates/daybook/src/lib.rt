@@ -21,6 +21,7 @@ pub fn open_book() -> Book
 {
     Book {
         begun: false,
+        contact: false,
         opening: 0,
         last: 0,
         refilled: 0,
@@ -56,16 +57,18 @@ fn booked(sum: i64, to: i32, from: i32) -> i64
     )
 }
 
-// Step 2 at a good tick after the first.
+// Step 2 at a good tick after the first. What changes in the tick after the valve shut belongs to the refill too.
 fn later_good(mut b: Book, raw: i32, contact: bool) -> Book
     ensures { λ r. ⌜ r ≡ laterGood b raw contact ⌝ }
 {
     let last = b.last;
+    let refill = contact | b.contact;
     b.begun = true;
+    b.contact = contact;
     b.last = raw;
     if is_in_day(b) {
         b.ticks += 1;
-        if contact {
+        if refill {
             b.refilled = booked(b.refilled, raw, last);
             return b;
         }
@@ -85,6 +88,7 @@ fn good_tick(mut b: Book, raw: i32, contact: bool) -> Book
     }
     let ticks = counted(b);
     b.begun = true;
+    b.contact = contact;
     b.opening = raw;
     b.last = raw;
     b.ticks = ticks;
@@ -105,12 +109,13 @@ pub fn book_tick(mut b: Book, raw: Raw, contact: bool) -> Book
     }
 }
 
-// The book after a day close: the day's last good raw opens the next.
+// The book after a day close: the day's last good raw opens the next, and a splash across the close is still the refill's.
 pub fn closed_book(b: Book) -> Book
     ensures { λ r. ⌜ r ≡ closedOf b ⌝ }
 {
     Book {
         begun: b.begun,
+        contact: b.contact,
         opening: b.last,
         last: b.last,
         refilled: 0,

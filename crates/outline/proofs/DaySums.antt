@@ -12,8 +12,8 @@ use Rattle.whole.specs.Limit.{limit-plain}
 use Rattle.whole.specs.Ints.{ints, linear, int-elim, ints2, ints3, ints6, abs-add}
 use Rattle.types.specs.declared.weight.Raw.the-variants.{Bad, Tenths}
 use Rattle.outline.specs.Limits.{dayTicks, rawLimit, bookLimit}
-use Rattle.outline.specs.DayBook.{limitOf, bookedOf, inDay, dayCount, laterGood, bookOf, closedOf}
-use Rattle.outline.specs.Day.{Good, riseOf, risesOf, earlyOf, isUse, isLate, refilledOf, usedOf, unbookedOf, openingOf, lastOf, daySums}
+use Rattle.outline.specs.DayBook.{limitOf, bookedOf, inDay, dayCount, ofRefill, laterGood, bookOf, closedOf}
+use Rattle.outline.specs.Day.{Good, riseOf, risesOf, earlyOf, filledAt, isUse, isLate, refilledOf, usedOf, unbookedOf, openingOf, lastOf, daySums}
 use Rattle.whole.specs.Chains.{and-left}
 use Rattle.outline.proofs.Parts.{cond-same, cond-turned, plus-nought, nought-plus}
 
@@ -83,13 +83,15 @@ module _ (before : Good) (gs : List Good) (n : ℕ) (x : ℤ) (contact : Bool) (
   unfolding laterGood
   later =
       let early = leb (suc n) dayTicks in
+      let filled = ofRefill (daySums (before ∷ gs) n) contact in
       rw (in-day (before ∷ gs) n)
       (λ i. record {
         begun = true;
+        contact = contact;
         opening = openingOf (before ∷ gs);
         last = x;
-        refilled = added (early && contact) (refilledOf (before ∷ gs)) (x -ℤ before .raw) (λ e. omega (linear, b .sums, up, leb-true (suc n) dayTicks (and-left early contact e))) i;
-        used = taken (early && not contact) (risesOf isUse (before ∷ gs)) x (before .raw) (λ e. omega (linear, b .sums, down, leb-true (suc n) dayTicks (and-left early (not contact) e))) i;
+        refilled = added (early && filled) (refilledOf (before ∷ gs)) (x -ℤ before .raw) (λ e. omega (linear, b .sums, up, leb-true (suc n) dayTicks (and-left early filled e))) i;
+        used = taken (early && not filled) (risesOf isUse (before ∷ gs)) x (before .raw) (λ e. omega (linear, b .sums, down, leb-true (suc n) dayTicks (and-left early (not filled) e))) i;
         unbooked = (cond-turned early _ _ ∙ taken (not early) (risesOf isLate (before ∷ gs)) x (before .raw) (λ e. omega (linear, one-fall (unbookedOf (before ∷ gs)) (before .raw) (b .late) (b .last), down))) i;
         ticks = counted-by n early refl i;
       })
@@ -122,10 +124,10 @@ rise-small g [] h k = omega arith
 rise-small g (before ∷ gs) h k = near (g .raw) (before .raw) h k
 
 -- a rise is booked in one sum at most
-share : (early contact : Bool) (d : ℤ) → natAbs d ≤ riseLimit → natAbs (cond (early && contact) d (pos 0)) + natAbs (cond (early && not contact) d (pos 0)) ≤ cond early riseLimit 0
+share : (early filled : Bool) (d : ℤ) → natAbs d ≤ riseLimit → natAbs (cond (early && filled) d (pos 0)) + natAbs (cond (early && not filled) d (pos 0)) ≤ cond early riseLimit 0
 share true true d h = omega arith
 share true false d h = omega arith
-share false contact d h = omega arith
+share false filled d h = omega arith
 
 abs-neg : (x : ℤ) → natAbs (negℤ x) ≡ natAbs x
 abs-neg = int-elim _ (λ a a′. simp ints (omega linear))
@@ -154,7 +156,7 @@ bounded-good gs n x contact b hx =
     let early = leb (suc n) dayTicks in
     let g : Good = record { raw = x; contact = contact; number = suc n } in
     record {
-      sums = N.le-trans (grow (refilledOf gs) (risesOf isUse gs) _ _ (riseLimit * min n dayTicks) (cond early riseLimit 0) (b .sums) (share early contact (riseOf g gs) (rise-small g gs hx (b .last)))) (room n early refl);
+      sums = N.le-trans (grow (refilledOf gs) (risesOf isUse gs) _ _ (riseLimit * min n dayTicks) (cond early riseLimit 0) (b .sums) (share early (filledAt g gs) (riseOf g gs) (rise-small g gs hx (b .last)))) (room n early refl);
       last = hx;
       late = late-more gs n x contact early refl b hx;
       none = λ h. rw (le-leb (suc n) dayTicks h) (still (risesOf isLate gs) (b .none (omega arith)));
@@ -164,9 +166,9 @@ bounded-good gs n x contact b hx =
 pub balanced : (gs : List Good) → openingOf gs +ℤ refilledOf gs -ℤ usedOf gs -ℤ unbookedOf gs ≡ lastOf gs
 balanced [] = refl
 balanced (g ∷ []) = simp (cond-same, plus-nought)
-balanced (g ∷ before ∷ gs) = go (earlyOf g) (g .contact) (openingOf (before ∷ gs)) (refilledOf (before ∷ gs)) (risesOf isUse (before ∷ gs)) (risesOf isLate (before ∷ gs)) (before .raw) (g .raw) (balanced (before ∷ gs))
+balanced (g ∷ before ∷ gs) = go (earlyOf g) (filledAt g (before ∷ gs)) (openingOf (before ∷ gs)) (refilledOf (before ∷ gs)) (risesOf isUse (before ∷ gs)) (risesOf isLate (before ∷ gs)) (before .raw) (g .raw) (balanced (before ∷ gs))
   where
-    go : (early contact : Bool) (o r u n l x : ℤ) → o +ℤ r -ℤ negℤ u -ℤ negℤ n ≡ l → o +ℤ (r +ℤ cond (early && contact) (x -ℤ l) (pos 0)) -ℤ negℤ (u +ℤ cond (early && not contact) (x -ℤ l) (pos 0)) -ℤ negℤ (n +ℤ cond (not early) (x -ℤ l) (pos 0)) ≡ x
+    go : (early filled : Bool) (o r u n l x : ℤ) → o +ℤ r -ℤ negℤ u -ℤ negℤ n ≡ l → o +ℤ (r +ℤ cond (early && filled) (x -ℤ l) (pos 0)) -ℤ negℤ (u +ℤ cond (early && not filled) (x -ℤ l) (pos 0)) -ℤ negℤ (n +ℤ cond (not early) (x -ℤ l) (pos 0)) ≡ x
     go true true = ints6 _ (λ o o′ r r′ u u′ n n′ l l′ x x′ h. simp ints (omega (linear, simp ints at h)))
     go true false = ints6 _ (λ o o′ r r′ u u′ n n′ l l′ x x′ h. simp ints (omega (linear, simp ints at h)))
-    go false contact = ints6 _ (λ o o′ r r′ u u′ n n′ l l′ x x′ h. simp ints (omega (linear, simp ints at h)))
+    go false filled = ints6 _ (λ o o′ r r′ u u′ n n′ l l′ x x′ h. simp ints (omega (linear, simp ints at h)))

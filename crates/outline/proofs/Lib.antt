@@ -26,6 +26,7 @@ pub mod StageFigures
 pub mod WeightFigures
 pub mod OutputFigures
 pub mod DischargeFigures
+pub mod RefillFigures
 -- what stays true: the book, requests
 pub mod BookStep
 pub mod DaySums

@@ -20,7 +20,7 @@ use Rattle.types.specs.declared.machine.Settled.{Settled}
 use Rattle.outline.specs.Limits.{rawLimit, dayTicks, bookLimit}
 use Rattle.outline.specs.Settings.{within}
 use Rattle.outline.specs.Weight.{goodCount, tenthsOf, rawOf}
-use Rattle.outline.specs.DayBook.{limitOf, bookedOf, inDay, dayCount, firstGood, laterGood, bookOf, closedOf}
+use Rattle.outline.specs.DayBook.{limitOf, bookedOf, inDay, dayCount, firstGood, ofRefill, laterGood, bookOf, closedOf}
 use Rattle.outline.specs.Requests.{doneOf, rulingOf, grantedOf, decidedOf}
 use Rattle.outline.specs.Tick.{enteredOf, settledOf, servedOf, withTracking, finishedOf, steppedOf, endedOf, nextOf}
 use Rattle.outline.specs.Ranges.{BookRange}
@@ -77,14 +77,14 @@ book-in b (Tenths raw) contact r h = cond-in BookRange (b .begun) (λ e. later) 
     later = record {
       opening = h .opening;
       last = r;
-      refilled = sum-in (inDay b && contact) (b .refilled) (raw -ℤ b .last) (h .refilled);
-      used = sum-in (inDay b && not contact) (b .used) (b .last -ℤ raw) (h .used);
+      refilled = sum-in (inDay b && ofRefill b contact) (b .refilled) (raw -ℤ b .last) (h .refilled);
+      used = sum-in (inDay b && not (ofRefill b contact)) (b .used) (b .last -ℤ raw) (h .used);
       unbooked = late-sum-in (inDay b) (b .unbooked) (b .last -ℤ raw) (h .unbooked);
       ticks = count-in b (h .ticks);
       blank = λ e. absurd (clash refl e);
     }
 
-    first : BookRange (firstGood b raw)
+    first : BookRange (firstGood b raw contact)
     first = record {
       opening = r;
       last = r;
@@ -105,7 +105,7 @@ closed-in b h = record {
   used = omega arith;
   unbooked = omega arith;
   ticks = omega arith;
-  blank = λ e. (h .blank e .1, h .blank e .1, refl, refl, refl);
+  blank = λ e. (h .blank e .0, h .blank e .2, h .blank e .2, refl, refl, refl);
 }
 
 granted-book : (st : State) (x : Weights) (r : Request) → BookRange (st .book) → BookRange (grantedOf st x r .state .book)

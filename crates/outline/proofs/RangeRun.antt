@@ -28,7 +28,7 @@ open-in s = record {
     used = omega arith;
     unbooked = omega arith;
     ticks = omega arith;
-    blank = λ e. (refl, refl, refl, refl, refl);
+    blank = λ e. (refl, refl, refl, refl, refl, refl);
   };
   stability = record { run = omega arith; broken = λ e. refl };
   weighing = record {

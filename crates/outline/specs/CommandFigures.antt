@@ -3,7 +3,7 @@
 use Prim.Native.Nat.{ℕ}
 use Prim.Native.String.{String}
 use mathlib.Core.Path.{_≡_}
-use mathlib.Core.Bool.{true}
+use mathlib.Core.Bool.{true, false}
 use mathlib.Core.List.{List, [], _∷_}
 use lib.ListN.{set}
 use lib.IntN.{ℤ, pos}
@@ -136,9 +136,9 @@ pub record Commanded : Type 0 where
   pub ca-twice : said (after twoTared (pos 20) "CA") (pos 20) "CA" ≡ 7 ∷ line "NG07"
   -- DC: day close: opening, refilled, used, unbooked, closing; the next day; the totals stay
   pub dc : heard settingsA beforeClose (pos 60) (line "DC") ≡ 0 ∷ line "DC"
-  pub dc-day : closedValues (dayClose .answer .closed) ≡ pos 0 ∷ pos 130 ∷ pos 70 ∷ pos 0 ∷ pos 60 ∷ []
+  pub dc-day : closedValues (dayClose .answer .closed) ≡ pos 0 ∷ pos 90 ∷ pos 30 ∷ pos 0 ∷ pos 60 ∷ []
   pub dc-next-day :
       dayClose .state .book
-      ≡ record { begun = true; opening = pos 60; last = pos 60; refilled = pos 0; used = pos 0; unbooked = pos 0; ticks = 0 }
+      ≡ record { begun = true; contact = false; opening = pos 60; last = pos 60; refilled = pos 0; used = pos 0; unbooked = pos 0; ticks = 0 }
   pub dc-booked : booked (after twoBooked (pos 20) "DC") ≡ 3 ∷ 2 ∷ []
   pub dc-then-ca : said (after twoBooked (pos 20) "DC") (pos 20) "CA" ≡ 0 ∷ line "CA"

@@ -1,6 +1,6 @@
 -- The day book's sums, made of the tick history: counts, the refill contact and the accepted day closes, and nothing else.
 use Prim.Native.Nat.{ℕ, suc, min}
-use mathlib.Core.Bool.{Bool, true, false, cond, not, _&&_}
+use mathlib.Core.Bool.{Bool, true, false, cond, not, _&&_, _||_}
 use mathlib.Core.List.{List, [], _∷_}
 use lib.Dec.{leb}
 use lib.IntN.{ℤ, pos, negℤ, natAbs, _+ℤ_, _-ℤ_}
@@ -21,7 +21,7 @@ pub record Noted : Type 0 where
   pub contact : Bool
   pub closes : Bool
 
--- a day close is accepted in every good tick
+-- a day close is accepted in every good tick and in no other
 abbrev pub noted : Input → Noted
 noted i = record { count = i .count; contact = i .contact; closes = goodOf (i .count) && requestKind (i .request) .closes }
 
@@ -35,7 +35,8 @@ abbrev pub ticksOf : History Noted → ℕ
 ticksOf start = 0
 ticksOf (h ▷ t) = cond (t .closes) 0 (suc (ticksOf h))
 
--- a good tick: its raw, its contact, its number in the day
+-- a good tick: its raw, its contact, its number in the day that it was booked to. The tick of a close keeps its old number in the day that
+-- it opens, where nothing asks for it.
 pub record Good : Type 0 where
   pub raw : ℤ
   pub contact : Bool
@@ -55,19 +56,31 @@ abbrev pub riseOf : Good → List Good → ℤ
 riseOf g [] = pos 0
 riseOf g (before ∷ gs) = g .raw -ℤ before .raw
 
--- the rises of those that p picks, which sees the earlier good ticks of the day too
+-- the sum of the rises at the good ticks that p picks; p is given the tick, and the good ticks of the day before it, the opening one too
 abbrev pub risesOf : (Good → List Good → Bool) → List Good → ℤ
 risesOf p [] = pos 0
 risesOf p (g ∷ gs) = risesOf p gs +ℤ cond (p g gs) (riseOf g gs) (pos 0)
 
+-- one of the first 8,640,000 ticks of its day
 abbrev pub earlyOf : Good → Bool
 earlyOf g = leb (g .number) dayTicks
 
+-- the contact at the newest of these good ticks; open where there is none
+abbrev pub contactOf : List Good → Bool
+contactOf [] = false
+contactOf (g ∷ gs) = g .contact
+
+-- A2: the contact was closed at this good tick or at the last good one; for the first change of a day that is the tick that closed the day
+-- before
+abbrev pub filledAt : Good → List Good → Bool
+filledAt g before = g .contact || contactOf before
+
+-- its change is refilled, used, unbooked
 abbrev pub isRefill : Good → List Good → Bool
-isRefill g before = earlyOf g && g .contact
+isRefill g before = earlyOf g && filledAt g before
 
 abbrev pub isUse : Good → List Good → Bool
-isUse g before = earlyOf g && not (g .contact)
+isUse g before = earlyOf g && not (filledAt g before)
 
 abbrev pub isLate : Good → List Good → Bool
 isLate g before = not (earlyOf g)
@@ -94,10 +107,11 @@ abbrev pub someOf : List Good → Bool
 someOf [] = false
 someOf (g ∷ gs) = true
 
--- the book that these sums make
+-- the book that these sums make in a day that has had n ticks so far
 abbrev pub daySums : List Good → ℕ → Book
 daySums gs n = record {
   begun = someOf gs;
+  contact = contactOf gs;
   opening = openingOf gs;
   last = lastOf gs;
   refilled = refilledOf gs;

@@ -157,9 +157,9 @@ pub record Runs : Type 0 where
   pub zero-after-falls : lastOfFalls .state .weighing .zero ≡ minus 20
   pub gross-after-falls : lastOfFalls .answer .reading .gross ≡ minus 1
   pub used-after-falls : lastOfFalls .state .book .used ≡ pos 25
-  -- the ticket: opening 0, refilled 130, used 70, unbooked 0, closing 60
+  -- the ticket: opening 0, refilled 90, used 30 (A2), unbooked 0, closing 60
   pub ticket :
-      closedValues (told settingsA beforeClose (pos 60) request.DayClose .closed) ≡ pos 0 ∷ pos 130 ∷ pos 70 ∷ pos 0 ∷ pos 60 ∷ []
+      closedValues (told settingsA beforeClose (pos 60) request.DayClose .closed) ≡ pos 0 ∷ pos 90 ∷ pos 30 ∷ pos 0 ∷ pos 60 ∷ []
 
 -- ---- both sides of each range of the settings' table
 -- a place of the list, the least and the most that settings A allow there

@@ -1,5 +1,5 @@
--- What each request asks, of what a history speaks of. It is the one table by which the histories know a request: a new request is one
--- row more.
+-- For each request, what it asks of the things that the histories keep account of. They know requests by this table alone, so a new request
+-- is one row more.
 use mathlib.Core.Bool.{Bool, true, false}
 use Rattle.types.specs.declared.requests.Request.{Request}
 use Rattle.types.specs.declared.requests.Request.the-variants as request
@@ -13,7 +13,7 @@ pub data Asked : Type 0 where
 pub record Kind : Type 0 where
   -- a zero is keyed
   pub zeroes : Bool
-  -- the day is closed
+  -- a day close is asked
   pub closes : Bool
   -- setpoints are written
   pub writes : Bool

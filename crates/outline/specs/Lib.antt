@@ -33,6 +33,7 @@ pub mod StageFigures
 pub mod WeightFigures
 pub mod OutputFigures
 pub mod DischargeFigures
+pub mod RefillFigures
 pub mod Owed
 pub mod AnalogOwed
 -- runs, their histories, and what stays true over them

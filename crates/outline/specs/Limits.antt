@@ -95,7 +95,7 @@ decimalDigits = 20
 abbrev pub rawLimit : ℕ
 rawLimit = 4000000
 
--- refilled, used and unbooked stop at it: dayTicks changes of at most twice rawLimit each; unbooked is one fall, however many ticks
+-- refilled, used and unbooked stop at it: dayTicks changes of at most twice rawLimit each; unbooked is the difference of two raws, however many ticks
 abbrev pub bookLimit : ℕ
 bookLimit = 69120000000000
 

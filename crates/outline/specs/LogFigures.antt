@@ -98,10 +98,10 @@ abbrev pub ticketAfter : Ticked → List ℕ
 ticketAfter t = ticketText (t .answer .closed) (t .state .weighing) (t .state .totals)
 
 pub record Tickets : Type 0 where
-  -- "prints, whole"
+  -- "prints, whole", with A2: "refilled=90, used=30, the rest as printed"
   pub worked :
       ticketAfter (tickAt settingsA beforeClose (pos 60) request.DayClose)
-      ≡ printed "opening=0" ++ printed "refilled=130" ++ printed "used=70" ++ printed "unbooked=0" ++ printed "closing=60"
+      ≡ printed "opening=0" ++ printed "refilled=90" ++ printed "used=30" ++ printed "unbooked=0" ++ printed "closing=60"
       ++ printed "tracked=0" ++ printed "batches=0" ++ printed "total=0"
   -- below zero: the five falls closed, and the day of one batch, which rises with the contact open
   pub falls :

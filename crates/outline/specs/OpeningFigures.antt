@@ -57,7 +57,7 @@ writtenB = record {
 -- "Opening: zero, tare, totals, setpoints and error 0, stage 00, display gross, no judgement, nothing to take back, no good tick yet."
 abbrev pub writtenState : State
 writtenState = record {
-  book = record { begun = false; opening = pos 0; last = pos 0; refilled = pos 0; used = pos 0; unbooked = pos 0; ticks = 0 };
+  book = record { begun = false; contact = false; opening = pos 0; last = pos 0; refilled = pos 0; used = pos 0; unbooked = pos 0; ticks = 0 };
   stability = record { good = false; run = 0 };
   weighing = record { zero = pos 0; tracked = pos 0; tare = pos 0; counter = 0 };
   panel = record { display = display.Gross };

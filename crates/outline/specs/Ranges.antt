@@ -36,8 +36,8 @@ pub record BookRange (b : Book) : Type 0 where
   pub used : natAbs (b .used) ≤ bookLimit
   pub unbooked : natAbs (b .unbooked) ≤ bookLimit
   pub ticks : b .ticks ≤ dayTicks
-  -- before a good tick: nothing but ticks
-  pub blank : b .begun ≡ false → (b .opening ≡ pos 0) × (b .last ≡ pos 0) × (b .refilled ≡ pos 0) × (b .used ≡ pos 0) × (b .unbooked ≡ pos 0)
+  -- before the first good tick all but the tick count is 0, and the contact noted is open
+  pub blank : b .begun ≡ false → (b .contact ≡ false) × (b .opening ≡ pos 0) × (b .last ≡ pos 0) × (b .refilled ≡ pos 0) × (b .used ≡ pos 0) × (b .unbooked ≡ pos 0)
 
 -- stability: the run is at most k, and 0 after a bad tick
 pub record StabilityRange (rule : Steadiness) (q : Stability) : Type 0 where

@@ -183,9 +183,9 @@ pub record Staged : Type 0 where
   pub read-after : reply settingsA (held 101 (held 2 running (pos 0)) (pos 100)) (pos 100) (line "RT") 19 ≡ line "00000010,00000001"
 
 -- ---- day book, near zero, lines, blocks
--- a book one tick before the end of its day's booking, and at it
+-- a book with n ticks today, the contact open at its last good tick
 abbrev pub lateBook : ℕ → Book
-lateBook n = record { begun = true; opening = pos 0; last = pos 100; refilled = pos 100; used = pos 0; unbooked = pos 0; ticks = n }
+lateBook n = record { begun = true; contact = false; opening = pos 0; last = pos 100; refilled = pos 100; used = pos 0; unbooked = pos 0; ticks = n }
 
 pub record Booked : Type 0 where
   pub first : bookOf openBook (Tenths (pos 70)) false .opening ≡ pos 70
@@ -193,7 +193,7 @@ pub record Booked : Type 0 where
   pub not-booked : bookOf (lateBook 8640000) (Tenths (pos 90)) false .used ≡ pos 0
   pub unbooked : bookOf (lateBook 8640000) (Tenths (pos 90)) true .unbooked ≡ pos 10
   pub bad-counts : bookOf (lateBook 8639999) Bad false .ticks ≡ dayTicks
-  pub next-day : closedOf (lateBook 5) ≡ record { begun = true; opening = pos 100; last = pos 100; refilled = pos 0; used = pos 0; unbooked = pos 0; ticks = 0 }
+  pub next-day : closedOf (lateBook 5) ≡ record { begun = true; contact = false; opening = pos 100; last = pos 100; refilled = pos 0; used = pos 0; unbooked = pos 0; ticks = 0 }
   -- near zero of 0: on at 0, off above, off in a bad tick
   pub near : told settingsA openState (pos 4) request.Nothing .near ≡ true
   pub near-above : told settingsA openState (pos 5) request.Nothing .near ≡ false

@@ -42,7 +42,8 @@ Balance = (s : Settings) → Accepted s → (h : History Input) →
     let b = runOf s h .book in
     b .opening +ℤ b .refilled -ℤ b .used -ℤ b .unbooked ≡ b .last
 
--- ---- 2. "the sums are those of the tick history, from counts and the refill contact alone"; exactly, so no guard ever acts
+-- ---- 2. "the sums are those of the tick history, from counts and the refill contact alone"; exactly, so the guard on
+-- the sums acts in no run. The tape has the accepted day closes too.
 abbrev pub SumsOfHistory : Type 0
 SumsOfHistory = (s : Settings) → Accepted s → (h : History Input) → runOf s h .book ≡ bookHistory (s .calibration) (tapeOf h)
 

@@ -39,7 +39,7 @@ abbrev pub countText : List ℕ → ℕ → List ℕ
 countText key n = pairText key false n
 
 -- ---- a ticket
--- "opening=0 refilled=130 used=70 unbooked=0 closing=60": the day that was closed, whose last raw is its closing
+-- "opening=0 refilled=90 used=30 unbooked=0 closing=60", as A2 has it: the day that was closed, whose last raw is its closing
 unfoldable pub dayText : Book → List ℕ
 dayText day =
     signedText (ascii "opening=") (day .opening) ++ signedText (ascii "refilled=") (day .refilled)

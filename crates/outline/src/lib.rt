@@ -13,6 +13,7 @@ ghost use Rattle.outline.specs.StageFigures.{Sequenced};
 ghost use Rattle.outline.specs.WeightFigures.{Tracked};
 ghost use Rattle.outline.specs.OutputFigures.{Displayed};
 ghost use Rattle.outline.specs.DischargeFigures.{Discharged, Requested};
+ghost use Rattle.outline.specs.RefillFigures.{Refills};
 ghost use Rattle.outline.specs.Owed.{OpeningLaw, RawLaw, SetpointLaw, TimedLaw};
 ghost use Rattle.outline.specs.AnalogOwed.{ScaleLaw, AnalogLaws};
 ghost use Rattle.outline.specs.EveryLine.{ReplyBounded, BytesStay, AnsweredInOrder, RefusedLines, ReadBackOnLine, GatesShutOnLine, TicketOnLine, NeverTogetherOnLine};
@@ -46,6 +47,7 @@ pub fn paper_holds()
     ensures displayed { λ r. ⌜ Displayed ⌝ }
     ensures discharged { λ r. ⌜ Discharged ⌝ }
     ensures requested { λ r. ⌜ Requested ⌝ }
+    ensures refills { λ r. ⌜ Refills ⌝ }
     ensures opening { λ r. ⌜ OpeningLaw ⌝ }
     ensures raw { λ r. ⌜ RawLaw ⌝ }
     ensures setpoints { λ r. ⌜ SetpointLaw ⌝ }

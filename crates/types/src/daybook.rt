@@ -1,8 +1,7 @@
 // The day book, in tenths of a division.
 
+// Its narrow fields stand last: a gap between fields is copied with them, wherever a book is.
 pub struct Book {
-    // there has been a good tick
-    pub begun: bool,
     pub opening: i32,
     // the last good raw
     pub last: i32,
@@ -11,6 +10,10 @@ pub struct Book {
     pub unbooked: i64,
     // the day's ticks, up to the last that is booked
     pub ticks: u32,
+    // there has been a good tick
+    pub begun: bool,
+    // the refill contact was closed at the last good tick
+    pub contact: bool,
 }
 
 // What an accepted day close ended: the day as step 2 left it. Its closing raw is `last`.
