@@ -67,16 +67,13 @@ pub(crate) fn put_refused(out: &mut [u8], at: usize, number: u64) -> usize {
     put_byte(out, at, LF)
 }
 
-fn put_value(out: &mut [u8], at: usize, key: &[u8], n: i64) -> usize {
-    let at = put(out, at, key);
-    put_signed(out, at, n)
-}
-
 fn put_weights(out: &mut [u8], at: usize, x: Reading) -> usize {
     let at = put(out, at, b" good=");
     let at = put_flag(out, at, x.good);
-    let at = put_value(out, at, b" gross=", wide(x.gross));
-    put_value(out, at, b" net=", wide(x.net))
+    let at = put(out, at, b" gross=");
+    let at = put_signed(out, at, wide(x.gross));
+    let at = put(out, at, b" net=");
+    put_signed(out, at, wide(x.net))
 }
 
 fn put_reading(out: &mut [u8], at: usize, x: Reading) -> usize {
@@ -159,21 +156,29 @@ fn put_outputs(out: &mut [u8], at: usize, a: Answer) -> usize {
 }
 
 fn put_weighing(out: &mut [u8], at: usize, w: Weighing) -> usize {
-    let at = put_value(out, at, b" zero=", wide(w.zero));
-    let at = put_value(out, at, b" tracked=", wide(w.tracked));
-    put_value(out, at, b" tare=", wide(w.tare))
+    let at = put(out, at, b" zero=");
+    let at = put_signed(out, at, wide(w.zero));
+    let at = put(out, at, b" tracked=");
+    let at = put_signed(out, at, wide(w.tracked));
+    let at = put(out, at, b" tare=");
+    put_signed(out, at, wide(w.tare))
 }
 
-fn put_day(out: &mut [u8], at: usize, b: Book) -> usize {
-    let at = put_value(out, at, b" opening=", wide(b.opening));
-    let at = put_value(out, at, b" refilled=", b.refilled);
-    put_value(out, at, b" used=", b.used)
+fn put_day(out: &mut [u8], at: usize, opening: i32, refilled: i64, used: i64) -> usize {
+    let at = put(out, at, b" opening=");
+    let at = put_signed(out, at, wide(opening));
+    let at = put(out, at, b" refilled=");
+    let at = put_signed(out, at, refilled);
+    let at = put(out, at, b" used=");
+    put_signed(out, at, used)
 }
 
 fn put_book(out: &mut [u8], at: usize, b: Book) -> usize {
-    let at = put_day(out, at, b);
-    let at = put_value(out, at, b" unbooked=", b.unbooked);
-    put_value(out, at, b" last=", wide(b.last))
+    let at = put_day(out, at, b.opening, b.refilled, b.used);
+    let at = put(out, at, b" unbooked=");
+    let at = put_signed(out, at, b.unbooked);
+    let at = put(out, at, b" last=");
+    put_signed(out, at, wide(b.last))
 }
 
 fn put_totals(out: &mut [u8], at: usize, t: Totals) -> usize {

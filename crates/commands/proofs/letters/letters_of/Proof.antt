@@ -1,10 +1,11 @@
 -- A pair that equals a command's letters computes; one that equals none fails each test of the definition.
 use Prim.Native.Nat.{ℕ}
-use mathlib.Core.Path.{_≡_, sym, ap, _∙_}
-use mathlib.Core.Bool.{false}
+use mathlib.Core.Path.{_≡_, refl, sym, ap, _∙_}
+use mathlib.Core.Bool.{Bool, cond}
 use borrow.Author.Needs.{needs}
 use borrow.Author.Tests.{ne-eqb}
 use lib.Dec.{eqb}
+use Rattle.types.specs.declared.lines.Letters.{Letters}
 use Rattle.outline.specs.Lines.{lettersOf, named}
 use Rattle.commands.proofs.letters.letters_of.Statement.{statement}
 use Rattle.commands.proofs.letters.letters_of.Tie as tie
@@ -117,8 +118,13 @@ returns-15 : tie.Need-returns-15
 unfolding lettersOf
 returns-15 c = sym (ap named (c .if15 .taken))
 
-other : (a b k : ℕ) → (a ≡ b → ⊥) → b ≡ k → eqb a k ≡ false
-other a b k h e = ne-eqb a k (λ p. h (p ∙ sym e))
+-- a test that fails is passed over
+past : (k a : ℕ) (x y z : Letters) → (k ≡ a → ⊥) → z ≡ y → z ≡ cond (eqb k a) x y
+past k a x y z h e = e ∙ sym (ap (λ (t : Bool). cond t x y) (ne-eqb k a h))
+
+-- the letters of a command, as the code has them
+past-word : (k b a : ℕ) (x y z : Letters) → (k ≡ b → ⊥) → b ≡ a → z ≡ y → z ≡ cond (eqb k a) x y
+past-word k b a x y z h e = past k a x y z (λ p. h (p ∙ sym e))
 
 returns-16 : tie.Need-returns-16
 unfolding lettersOf
@@ -137,25 +143,21 @@ returns-16 c =
     let e3 = e4 .before .before in
     let e2 = e3 .before .before in
     let e1 = e2 .before .before in
-    simp (
-      other _ _ _ (e1 .if1 .left) (e1 .before .letters-for .ensures),
-      other _ _ _ (e2 .if2 .left) (e2 .before .letters-for2 .ensures),
-      other _ _ _ (e3 .if3 .left) (e3 .before .letters-for3 .ensures),
-      other _ _ _ (e4 .if4 .left) (e4 .before .letters-for4 .ensures),
-      other _ _ _ (e5 .if5 .left) (e5 .before .letters-for5 .ensures),
-      other _ _ _ (e6 .if6 .left) (e6 .before .letters-for6 .ensures),
-      other _ _ _ (e7 .if7 .left) (e7 .before .letters-for7 .ensures),
-    )
-    (simp (
-      other _ _ _ (e8 .if8 .left) (e8 .before .letters-for8 .ensures),
-      other _ _ _ (e9 .if9 .left) (e9 .before .letters-for9 .ensures),
-      other _ _ _ (e10 .if10 .left) (e10 .before .letters-for10 .ensures),
-      other _ _ _ (e11 .if11 .left) (e11 .before .letters-for11 .ensures),
-      other _ _ _ (e12 .if12 .left) (e12 .before .letters-for12 .ensures),
-      other _ _ _ (e13 .if13 .left) (e13 .before .letters-for13 .ensures),
-      other _ _ _ (e14 .if14 .left) (e14 .before .letters-for14 .ensures),
-      ne-eqb _ _ (c .if15 .left),
-    ))
+    past-word _ _ _ _ _ _ (e1 .if1 .left) (e1 .before .letters-for .ensures)
+    (past-word _ _ _ _ _ _ (e2 .if2 .left) (e2 .before .letters-for2 .ensures)
+    (past-word _ _ _ _ _ _ (e3 .if3 .left) (e3 .before .letters-for3 .ensures)
+    (past-word _ _ _ _ _ _ (e4 .if4 .left) (e4 .before .letters-for4 .ensures)
+    (past-word _ _ _ _ _ _ (e5 .if5 .left) (e5 .before .letters-for5 .ensures)
+    (past-word _ _ _ _ _ _ (e6 .if6 .left) (e6 .before .letters-for6 .ensures)
+    (past-word _ _ _ _ _ _ (e7 .if7 .left) (e7 .before .letters-for7 .ensures)
+    (past-word _ _ _ _ _ _ (e8 .if8 .left) (e8 .before .letters-for8 .ensures)
+    (past-word _ _ _ _ _ _ (e9 .if9 .left) (e9 .before .letters-for9 .ensures)
+    (past-word _ _ _ _ _ _ (e10 .if10 .left) (e10 .before .letters-for10 .ensures)
+    (past-word _ _ _ _ _ _ (e11 .if11 .left) (e11 .before .letters-for11 .ensures)
+    (past-word _ _ _ _ _ _ (e12 .if12 .left) (e12 .before .letters-for12 .ensures)
+    (past-word _ _ _ _ _ _ (e13 .if13 .left) (e13 .before .letters-for13 .ensures)
+    (past-word _ _ _ _ _ _ (e14 .if14 .left) (e14 .before .letters-for14 .ensures)
+    (past _ _ _ _ _ (c .if15 .left) refl))))))))))))))
 
 pub letters-of-spec : {M : Type 1} → statement M
 letters-of-spec =
