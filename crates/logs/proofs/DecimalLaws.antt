@@ -1,16 +1,17 @@
 -- A number in decimal: how many digits it has, and that they are its last digits, so many. Assumes nothing.
-use Prim.Native.Nat.{ℕ, zero, suc, _+_, _/_, _≤_, _<_, zero-le}
+use Prim.Native.Nat.{ℕ, zero, suc, _+_, _/_, _^_, _≤_, _<_, zero-le}
 use mathlib.Core.Path.{_≡_, refl, sym, ap, _∙_}
-use mathlib.Core.List.{List, [], _∷_, _++_, append-assoc}
+use mathlib.Core.List.{List, [], _∷_, _++_}
 use mathlib.Core.Bool.{Bool, true, false, cond}
+use native.Mathlib.Nat.{div-lt-iff-lt-mul, pow-suc}
 use native.Mathlib.Numerals.{add-one}
 use native.Mathlib.Omega.{arith}
 use borrow.Author.Tests.{lt-ltb, le-ltb}
-use lib.Dec.{ltb}
+use lib.Dec.{ltb, lit<}
 use lib.ListN.{length, length-append}
 use Rattle.outline.specs.Lines.{unitsDigit}
 use Rattle.outline.specs.Replies.{digitsOf}
-use Rattle.outline.specs.Ticket.{decimalIn, decimalText, pairText}
+use Rattle.outline.specs.Ticket.{decimalIn, decimalText}
 
 -- ---- one digit more, where k + 1 of them are allowed
 pub digits-end : (m k n : ℕ) → m ≡ suc k → n < 10 → length (decimalIn m n) ≡ 1
@@ -21,13 +22,14 @@ pub digits-go-on : (m k n : ℕ) → m ≡ suc k → 10 ≤ n → length (decima
 unfolding decimalIn
 digits-go-on m k n e h = rw e (simp (le-ltb n 10 h, length-append, add-one))
 
-pub digits-last : (n : ℕ) → length (decimalIn 1 n) ≡ 1
-unfolding decimalIn
-digits-last n = go (ltb n 10)
-  where
-    go : (t : Bool) → length (cond t [] [] ++ (unitsDigit n ∷ [])) ≡ 1
-    go true = refl
-    go false = refl
+-- a number of m digits at most: its tenth has one less, and one of 10 or more has two at least
+pub tenth-below : (m k n : ℕ) → m ≡ suc k → n < 10 ^ m → n / 10 < 10 ^ k
+tenth-below m k n e h = div-lt-iff-lt-mul {k = 10} {x = n} {y = 10 ^ k} (lit< tt) .1 (rw (e, pow-suc) at h)
+
+pub two-allowed : (m n : ℕ) → n < 10 ^ m → 10 ≤ n → 2 ≤ m
+two-allowed zero n h k = absurd (omega arith)
+two-allowed (suc zero) n h k = absurd (omega arith)
+two-allowed (suc (suc m)) n h k = omega arith
 
 -- ---- all of them
 all-digits : (k n : ℕ) → decimalIn k n ≡ digitsOf (length (decimalIn k n)) n
@@ -56,23 +58,7 @@ pub decimal-short : (n : ℕ) → length (decimalText n) ≤ 20
 unfolding decimalText
 decimal-short n = few-digits 20 n
 
--- ---- a line
-sign-length : (minus : Bool) → length {A = ℕ} (cond minus (45 ∷ []) []) ≡ cond minus 1 0
-sign-length true = refl
-sign-length false = refl
-
-pub sign-short : (minus : Bool) → cond minus 1 0 ≤ 1
-sign-short true = omega arith
-sign-short false = omega arith
-
-module _ (key : List ℕ) (minus : Bool) (n : ℕ) where
-  -- as it is written: one part behind the other
-  pub pair-parts : key ++ cond minus (45 ∷ []) [] ++ decimalText n ++ (10 ∷ []) ≡ pairText key minus n
-  unfolding pairText
-  pair-parts = ap (λ (l : List ℕ). l ++ (10 ∷ [])) (append-assoc key (cond minus (45 ∷ []) []) (decimalText n))
-
-  pub pair-length : length (pairText key minus n) ≡ length key + cond minus 1 0 + length (decimalText n) + 1
-  pair-length = ap length (sym pair-parts) ∙ simp (length-append, sign-length)
-
-  pub pair-short : length (pairText key minus n) ≤ length key + 22
-  pair-short = omega (arith, pair-length, sign-short minus, decimal-short n)
+-- there is one at least
+pub decimal-some : (n : ℕ) → 1 ≤ length (decimalText n)
+unfolding decimalText decimalIn
+decimal-some n = simp (length-append) (omega arith)

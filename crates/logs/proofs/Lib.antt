@@ -6,10 +6,9 @@ pub mod NumberLaws
 pub mod RunLaws
 -- pieces
 mod Turns
--- pairs
+-- pairs and tickets
 pub mod DecimalLaws
--- tickets
-pub mod TicketLaws
+pub mod TextLaws
 -- ticks
 pub mod ReceiveLaws
 pub mod TickLaws

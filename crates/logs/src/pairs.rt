@@ -1,19 +1,21 @@
-// A line that is printed: its key, its number in decimal, LF. It is measured first, so that a text is written whole or not at all; who
-// writes one has seen to the room.
+// A text that is printed: lines of a key, a number in decimal and LF. Its keys come as one row of bytes, and behind each `=` of them stands
+// the next number. It is measured first, so that it is written whole or not at all.
 ghost use mathlib.Core.Path.{_≡_};
 ghost use mathlib.Core.Bool.{cond};
-ghost use mathlib.Core.List.{_∷_, []};
-ghost use Prim.Native.Nat.{_+_, _≤_};
-ghost use lib.ListN.{length};
-ghost use Rattle.outline.specs.Ticket.{decimalText};
-ghost use Rattle.logs.specs.Amounts.{amountOf, pairOf};
+ghost use Prim.Native.Nat.{_+_, _≤_, _<_};
+ghost use lib.ListN.{length, take};
+ghost use Rattle.outline.specs.Replies.{writtenOf};
+ghost use Rattle.outline.specs.Ticket.{decimalText, fittedIn};
+ghost use Rattle.logs.specs.Amounts.{amountOf, numberLine, numberLines, marks, filled};
 ghost use Rattle.replies.specs.Put.{Put};
 use replies::put::digits_at;
 use whole::below;
 use whole::magnitude;
 
-// The most digits of a number.
-const DECIMAL_DIGITS: usize = 20;
+// The most numbers that a text has: those of a ticket.
+pub(crate) const NUMBERS: usize = 8;
+
+const EQUALS: u8 = 61;
 
 const LF: u8 = 10;
 
@@ -38,10 +40,7 @@ fn digit_count(n: u64) -> usize
 {
     let mut k: usize = 1;
     let mut rest = n;
-    while k < DECIMAL_DIGITS {
-        if rest < 10 {
-            return k;
-        }
+    while 10 <= rest {
         rest /= 10;
         k += 1;
     }
@@ -54,50 +53,67 @@ fn sign_length(minus: bool) -> usize
     if minus { 1 } else { 0 }
 }
 
-pub(crate) fn pair_length(key: &[u8], a: Amount) -> usize
-    requires { ⌜ length (now key) ≤ 16 ⌝ }
-    ensures { λ r. ⌜ r ≡ length (pairOf (now (key .entry)) a) ⌝ }
+// How many bytes the first numbers take, each with its LF.
+fn numbers_length(amounts: [Amount; NUMBERS], lines: usize) -> usize
+    requires { ⌜ lines ≤ 8 ⌝ }
+    ensures { λ r. ⌜ r ≡ length (numberLines (take lines amounts)) ⌝ }
 {
-    key.len() + sign_length(a.minus) + digit_count(a.size) + 1
-}
-
-fn put_bytes(out: &mut [u8], at: usize, bytes: &[u8]) -> usize
-    requires { ⌜ at + length (now bytes) ≤ length (now out) ⌝ }
-    ensures { λ r. ⌜ Put (now (out .entry)) at (now (bytes .entry)) (now (out .exit)) r (length (now (bytes .entry))) ⌝ }
-{
+    let mut n: usize = 0;
     let mut i: usize = 0;
-    while i < bytes.len() {
-        out[at + i] = bytes[i];
+    while i < lines {
+        let a = amounts[i];
+        n = n + sign_length(a.minus) + digit_count(a.size) + 1;
         i += 1;
     }
-    at + i
+    n
 }
 
-fn put_sign(out: &mut [u8], at: usize, minus: bool) -> usize
-    requires { ⌜ at + cond minus 1 0 ≤ length (now out) ⌝ }
-    ensures { λ r. ⌜ Put (now (out .entry)) at (cond minus (45 ∷ []) []) (now (out .exit)) r (cond minus 1 0) ⌝ }
+// A number and LF. A minus is put first; where there is none, the first digit takes its place.
+fn put_number(out: &mut [u8], at: usize, a: Amount) -> usize
+    requires { ⌜ at + length (numberLine a) ≤ length (now out) ⌝ }
+    ensures { λ r. ⌜ Put (now (out .entry)) at (numberLine a) (now (out .exit)) r (length (numberLine a)) ⌝ }
 {
-    if minus {
-        out[at] = crate::numerals::MINUS;
-        return at + 1;
+    out[at] = crate::numerals::MINUS;
+    let next = digits_at(out, at + sign_length(a.minus), digit_count(a.size), a.size);
+    out[next] = LF;
+    next + 1
+}
+
+// The keys byte by byte, and the next number behind each `=`.
+fn put_text(out: &mut [u8], keys: &[u8], amounts: [Amount; NUMBERS]) -> usize
+    requires { ⌜ (marks (now keys) ≤ 8) × (length (filled (now keys) amounts) ≤ length (now out)) ⌝ }
+    ensures { λ r. ⌜ Put (now (out .entry)) 0 (filled (now (keys .entry)) amounts) (now (out .exit)) r (length (filled (now (keys .entry)) amounts)) ⌝ }
+{
+    let mut at: usize = 0;
+    let mut line: usize = 0;
+    let mut i: usize = 0;
+    while i < keys.len() {
+        let byte = keys[i];
+        out[at] = byte;
+        at += 1;
+        i += 1;
+        if byte != EQUALS {
+            continue;
+        }
+        at = put_number(out, at, amounts[line]);
+        line += 1;
     }
     at
 }
 
-fn put_decimal(out: &mut [u8], at: usize, n: u64) -> usize
-    requires { ⌜ at + length (decimalText n) ≤ length (now out) ⌝ }
-    ensures { λ r. ⌜ Put (now (out .entry)) at (decimalText n) (now (out .exit)) r (length (decimalText n)) ⌝ }
+// The text, at the buffer's start, where it fits. The answer is the count of its bytes, 0 where they do not fit.
+pub(crate) fn write_text(
+    out: &mut [u8],
+    keys: &[u8],
+    amounts: [Amount; NUMBERS],
+    lines: usize,
+) -> usize
+    requires { ⌜ (marks (now keys) ≡ lines) × (lines ≤ 8) × (length (now keys) < 100) ⌝ }
+    ensures count { λ r. ⌜ r ≡ fittedIn (filled (now (keys .entry)) amounts) (now (out .entry)) ⌝ }
+    ensures bytes { λ r. ⌜ now (out .exit) ≡ writtenOf (filled (now (keys .entry)) amounts) (now (out .entry)) ⌝ }
 {
-    digits_at(out, at, digit_count(n), n)
-}
-
-pub(crate) fn put_pair(out: &mut [u8], at: usize, key: &[u8], a: Amount) -> usize
-    requires { ⌜ at + length (pairOf (now key) a) ≤ length (now out) ⌝ }
-    ensures { λ r. ⌜ Put (now (out .entry)) at (pairOf (now (key .entry)) a) (now (out .exit)) r (length (pairOf (now (key .entry)) a)) ⌝ }
-{
-    let next = put_bytes(out, at, key);
-    let next = put_sign(out, next, a.minus);
-    let next = put_decimal(out, next, a.size);
-    out[next] = LF;
-    next + 1
+    if out.len() < keys.len() + numbers_length(amounts, lines) {
+        return 0;
+    }
+    put_text(out, keys, amounts)
 }

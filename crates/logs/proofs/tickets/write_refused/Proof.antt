@@ -1,42 +1,25 @@
 -- One line without a minus.
-use native.Mathlib.Omega.{arith}
-use Rattle.outline.specs.Ticket.{refusedText}
-use Rattle.logs.proofs.TicketLaws.{fitted, unfitted}
 use borrow.Author.Needs.{needs}
+use Rattle.logs.specs.Amounts.{marks}
+use Rattle.logs.proofs.TextLaws.{refused-line}
 use Rattle.logs.proofs.tickets.write_refused.Statement.{statement}
 use Rattle.logs.proofs.tickets.write_refused.Tie as tie
 
-slice-aggregate-pair-length : tie.Need-slice-aggregate-pair-length
-slice-aggregate-pair-length c = search needs
+slice-aggregate-write-text : tie.Need-slice-aggregate-write-text
+slice-aggregate-write-text c = search needs
 
-pair-length-requires : tie.Need-pair-length-requires
-pair-length-requires c κs = search needs
-
-returns : tie.Need-returns
-unfolding refusedText
-returns c = unfitted _ _ (omega arith)
-
-slice-aggregate-put-pair : tie.Need-slice-aggregate-put-pair
-slice-aggregate-put-pair c = search needs
-
-put-pair-requires : tie.Need-put-pair-requires
-put-pair-requires c κs = search needs
+write-text-requires : tie.Need-write-text-requires
+unfolding marks
+write-text-requires c κs = search needs
 
 same-length : tie.Need-same-length
 same-length c = search needs
 
-returns-2 : tie.Need-returns-2
-unfolding refusedText
-returns-2 c = fitted (c .before .before .put-pair .ensures) (omega arith)
+returns : tie.Need-returns
+returns c =
+    let w = c .before .before in
+    rw (← refused-line (w .before .before .before .before .args .number)) (w .write-text .ensures)
 
 pub write-refused-spec : {M : Type 1} → statement M
 write-refused-spec =
-    tie.close
-    (tie.spec
-    slice-aggregate-pair-length
-    pair-length-requires
-    returns
-    slice-aggregate-put-pair
-    put-pair-requires
-    same-length
-    returns-2)
+    tie.close (tie.spec slice-aggregate-write-text write-text-requires same-length returns)
