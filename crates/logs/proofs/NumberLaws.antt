@@ -1,26 +1,22 @@
 -- The number at a place, by the place where its digits begin and the count of them.
-use Prim.Native.Nat.{ℕ, suc, _+_, _≤_, _<_}
-use mathlib.Core.Path.{_≡_, sym, _∙_}
-use mathlib.Core.List.{List}
-use mathlib.Core.Bool.{Bool, true, false, cond, _&&_}
+use Prim.Native.Nat.{ℕ, zero, suc, _+_, _≤_, _<_}
+use mathlib.Core.Path.{_≡_, sym, subst, _∙_}
+use mathlib.Core.List.{List, [], _∷_}
+use mathlib.Core.Bool.{true, cond, _&&_}
 use native.Mathlib.Omega.{arith}
 use borrow.Author.Tests.{le-leb, lt-leb}
-use lib.Dec.{leb}
+use lib.Dec.{T, leb}
 use lib.IntN.{ℤ}
-use lib.ListN.{length, take, drop, drop-of-length-le, List·getD-eq-default}
+use lib.ListN.{length, take, drop}
 use Rattle.outline.specs.Limits.{numberDigits}
 use Rattle.outline.specs.Log.{isMinus, digitsFrom, digitRun, valueFrom, signedOf, numberAt}
 use Rattle.types.specs.declared.log.LogNumber.the-variants.{Number, Unreadable}
 
--- past the line's end there is no digit
-pub beyond : (line : List ℕ) (at : ℕ) → length line ≤ at → Unreadable ≡ numberAt line at
-unfolding numberAt
-beyond line at h = simp (List·getD-eq-default line 0 h, drop-of-length-le line h)
-
--- a minus has a place behind it that is no later than the line's end
-pub from-within : (m : Bool) (at n : ℕ) → at < n → cond m (suc at) at ≤ n
-from-within true at n h = h
-from-within false at n h = omega arith
+-- a minus stands within the line, since what is read behind it is none
+pub minus-within : (line : List ℕ) (at : ℕ) → isMinus line at ≡ true → at < length line
+minus-within [] at h = absurd (subst T (sym h) tt)
+minus-within (x ∷ line) zero h = omega arith
+minus-within (x ∷ line) (suc at) h = omega (arith, minus-within line at h)
 
 -- the digits begin at f; s is what stands from there on, and n counts the digits of it
 module _ (line : List ℕ) (at f n : ℕ) (s : List ℕ) (e : f ≡ digitsFrom line at) (d : s ≡ drop f line) (k : n ≡ digitRun s) where

@@ -1,24 +1,33 @@
 -- The run of digits that a part of a line begins with: how far it goes, what its bytes are, and what number its first bytes say.
 use Prim.Native.Nat.{ℕ, zero, suc, _+_, _-_, _*_, _^_, _≤_, _<_, zero-le}
-use mathlib.Core.Path.{_≡_, refl}
+use mathlib.Core.Path.{_≡_, refl, sym, subst}
 use mathlib.Core.List.{List, [], _∷_, _++_}
 use mathlib.Core.Bool.{Bool, true, false, cond}
 use native.Mathlib.Numerals.{add-one}
 use native.Mathlib.Omega.{arith}
-use lib.Dec.{lit<}
-use lib.ListN.{length, getD, take, drop, drop-of-length-le}
+use lib.Dec.{T, lit<}
+use lib.ListN.{length, getD, take, drop}
 use lib.Seq.{drop-cons, take-suc}
 use Rattle.outline.specs.Lines.{isDigit}
 use Rattle.outline.specs.Log.{digitRun, valueFrom}
 use Rattle.commands.specs.DigitLaws.{digit-range, next-digit, room}
 
 -- ---- the count of them
--- one byte further, where t is its test
-pub step : (s : List ℕ) (i : ℕ) (t : Bool) → i < length s → t ≡ isDigit (getD s i 0) → digitRun (drop i s) ≡ cond t (suc (digitRun (drop (i + 1) s))) 0
-step s i t h e = rw (e, drop-cons s i 0 h, add-one)
+-- a digit stands within the list, since what is read behind it is none
+pub digit-within : (s : List ℕ) (i : ℕ) → isDigit (getD s i 0) ≡ true → i < length s
+digit-within [] i h = absurd (subst T (sym h) tt)
+digit-within (x ∷ s) zero h = omega arith
+digit-within (x ∷ s) (suc i) h = omega (arith, digit-within s i h)
 
-pub past : (s : List ℕ) (i : ℕ) → length s ≤ i → digitRun (drop i s) ≡ 0
-past s i h = rw (drop-of-length-le s h)
+-- one byte further, and the end
+pub run-goes : (s : List ℕ) (i : ℕ) → isDigit (getD s i 0) ≡ true → digitRun (drop i s) ≡ suc (digitRun (drop (i + 1) s))
+run-goes s i h = rw (drop-cons s i 0 (digit-within s i h), add-one) (simp h)
+
+pub run-stops : (s : List ℕ) (i : ℕ) → isDigit (getD s i 0) ≡ false → digitRun (drop i s) ≡ 0
+run-stops [] zero h = refl
+run-stops [] (suc i) h = refl
+run-stops (x ∷ s) zero h = simp h
+run-stops (x ∷ s) (suc i) h = run-stops s i h
 
 pub run-length : (s : List ℕ) → digitRun s ≤ length s
 run-length [] = zero-le

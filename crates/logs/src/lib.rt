@@ -1,7 +1,8 @@
 // The lines of a log, `count contact request`: what stands in one, and whether it can be read at all. Every line is taken, of any bytes.
 // The modules find the lines of an input among the bytes held, run the tick of each, and write what the ticket program prints.
 ghost use mathlib.Core.Path.{_≡_};
-ghost use Rattle.outline.specs.Log.{isContact, isRest, unreadable, logLineOf, isNone};
+ghost use Rattle.outline.specs.Log.{isContact, isRest, logLineOf, isNone};
+use commands::line::byte_at;
 use types::log::LogLine;
 use types::log::LogNumber;
 
@@ -18,6 +19,9 @@ const REQUEST_LIMIT: usize = 100;
 // The bytes between a count and its request: a space, the contact, a space.
 const GAP: usize = 3;
 
+// The most bytes behind a count.
+const REST_LIMIT: usize = GAP + REQUEST_LIMIT;
+
 // The bytes of the request that is none.
 const NONE_LENGTH: usize = 2;
 
@@ -33,48 +37,43 @@ fn is_contact(b: u8) -> bool
     if b == OPEN { true } else { b == CLOSED }
 }
 
-// What stands behind the count. The lengths come first, since a sum could wrap on a place beyond the line.
-fn is_rest(line: &[u8], at: usize) -> bool
-    ensures { λ r. ⌜ r ≡ isRest (now (line .entry)) at ⌝ }
+// What stands behind the count: a space, the contact, a space, a request.
+fn is_rest(rest: &[u8]) -> bool
+    ensures { λ r. ⌜ r ≡ isRest (now (rest .entry)) 0 ⌝ }
 {
-    if line.len() <= GAP {
+    if rest.len() <= GAP {
         return false;
     }
-    if line.len() - GAP <= at {
+    if REST_LIMIT < rest.len() {
         return false;
     }
-    if REQUEST_LIMIT < line.len() - (at + GAP) {
+    if byte_at(rest, 0) != SPACE {
         return false;
     }
-    if commands::line::byte_at(line, at) != SPACE {
+    if byte_at(rest, 2) != SPACE {
         return false;
     }
-    if commands::line::byte_at(line, at + 2) != SPACE {
-        return false;
-    }
-    is_contact(commands::line::byte_at(line, at + 1))
+    is_contact(byte_at(rest, 1))
 }
 
-fn unreadable() -> LogLine
-    ensures { λ r. ⌜ r ≡ unreadable ⌝ }
-{
-    LogLine {
-        read: false,
-        count: 0,
-        contact: false,
-        request: 0,
-    }
-}
+// What is said of a line that can't be read.
+const UNREADABLE: LogLine = LogLine {
+    read: false,
+    count: 0,
+    contact: false,
+    request: 0,
+};
 
 // The count tells where the rest begins, so it is read first.
 fn log_line(line: &[u8]) -> LogLine
     ensures { λ r. ⌜ r ≡ logLineOf (now (line .entry)) ⌝ }
 {
     let LogNumber::Number(count, at) = crate::numerals::number_at(line, 0) else {
-        return unreadable();
+        return UNREADABLE;
     };
-    if is_rest(line, at) {
-        let contact = commands::line::byte_at(line, at + 1) == CLOSED;
+    let rest = crate::pieces::part(line, at, line.len());
+    if is_rest(rest) {
+        let contact = byte_at(rest, 1) == CLOSED;
         let request = at + GAP;
         return LogLine {
             read: true,
@@ -83,7 +82,7 @@ fn log_line(line: &[u8]) -> LogLine
             request,
         };
     }
-    unreadable()
+    UNREADABLE
 }
 
 // `--` asks for nothing.
@@ -93,8 +92,8 @@ fn is_none(request: &[u8]) -> bool
     if request.len() != NONE_LENGTH {
         return false;
     }
-    if request[0] != crate::numerals::MINUS {
+    if byte_at(request, 0) != crate::numerals::MINUS {
         return false;
     }
-    request[1] == crate::numerals::MINUS
+    byte_at(request, 1) == crate::numerals::MINUS
 }

@@ -1,8 +1,11 @@
 // The lines of an input, by the bytes of it that a buffer holds. Each line stays where it was read, so an input of any length takes no more
 // room than that. Reading it is the programs': whichever bytes come, which line they hold is said here.
 ghost use mathlib.Core.Path.{_≡_};
+ghost use mathlib.Core.Bool.{cond};
+ghost use Prim.Native.Nat.{suc};
+ghost use lib.Dec.{ltb};
 ghost use lib.ListN.{drop};
-ghost use Rattle.outline.specs.Log.{between, lineAt, numberBehind, placeBehind, lineBehind};
+ghost use Rattle.outline.specs.Log.{between, lineAt, numberBehind, lineBehind};
 use crate::pieces::next_lf;
 use crate::pieces::part;
 use types::log::Line;
@@ -39,21 +42,17 @@ fn number_behind(number: u64) -> u64
 }
 
 // Where the next line begins: behind the LF, or at the end of what is held where the line has none.
-fn place_behind(line: Line) -> usize
-    ensures { λ r. ⌜ r ≡ placeBehind line ⌝ }
+fn place_behind(end: usize, all: usize) -> usize
+    ensures { λ r. ⌜ r ≡ cond (ltb end all) (suc end) all ⌝ }
 {
-    if line.end < line.all {
-        line.end + 1
-    } else {
-        line.all
-    }
+    if end < all { end + 1 } else { all }
 }
 
 // The line that follows another among the bytes held. Where it is not whole the input is to be read on before it is used.
 pub fn line_behind(space: &[u8], line: Line) -> Line
     ensures { λ r. ⌜ r ≡ lineBehind (now (space .entry)) line ⌝ }
 {
-    let from = place_behind(line);
+    let from = place_behind(line.end, line.all);
     let number = number_behind(line.number);
     line_at(space, from, line.all, number)
 }

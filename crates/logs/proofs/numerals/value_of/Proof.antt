@@ -18,23 +18,24 @@ abbrev μ-loop : tie.MeasureT-loop
 
 -- in a turn: the next byte is a digit, and the number has eight digits at most
 module _ (c : tie.In-loop Inv-loop μ-loop) where
+  abbrev P : tie.Start Inv-loop μ-loop
+  P = c .before .before .before
+
   abbrev S : List ℕ
-  S = now (c .before .before .args .part)
+  S = now (P .args .part)
 
   abbrev I : ℕ
   I = c .before .loop .i
 
   left : I < digitRun S
-  left = omega (arith, c .before .before .pre)
-
-  within : I < length S
-  within = omega (arith, left, run-length S)
-
-  range : (48 ≤ getD S I 0) × (getD S I 0 ≤ 57)
-  range = byte-range S I left
+  left = omega (arith, P .pre, c .loop-test .taken)
 
   small : c .before .loop .v < 100000000
-  small = rw (c .before .loop .inv .1) (value-limit S I 8 (omega (arith, left)) (omega (arith, c .before .before .pre)))
+  small = rw (c .before .loop .inv .1) (value-limit S I 8 (omega (arith, left)) (omega (arith, P .pre, c .loop-test .taken)))
+
+-- what was read of it
+range : (c : tie.After-byte-at Inv-loop μ-loop) → (48 ≤ c .byte-at .result) × (c .byte-at .result ≤ 57)
+range c = rw (c .byte-at .ensures) (byte-range (S (c .before)) (I (c .before)) (left (c .before)))
 
 loop-holds : tie.Need-loop-holds Inv-loop μ-loop
 loop-holds c = (zero-le, refl)
@@ -42,29 +43,33 @@ loop-holds c = (zero-le, refl)
 mul-v : tie.Need-mul-v Inv-loop μ-loop
 mul-v c = omega (arith, small c)
 
-shared-slice-read-v : tie.Need-shared-slice-read-v Inv-loop μ-loop
-shared-slice-read-v c = within (c .before)
+byte-at-requires : tie.Need-byte-at-requires Inv-loop μ-loop
+byte-at-requires c κs = tt
 
 sub-v : tie.Need-sub-v Inv-loop μ-loop
-sub-v c = range (c .before) .0
+sub-v c = range c .0
 
 cast-v : tie.Need-cast-v Inv-loop μ-loop
-cast-v c = omega (arith, range (c .before))
+cast-v c = omega (arith, range c)
 
 add-v : tie.Need-add-v Inv-loop μ-loop
-add-v c = omega (arith, small (c .before), range (c .before))
+add-v c = omega (arith, small (c .before), range c)
 
 add-i : tie.Need-add-i Inv-loop μ-loop
-add-i c = omega arith
+add-i c = omega (arith, c .before .loop-test .taken)
 
 loop-less : tie.Need-loop-less Inv-loop μ-loop
-loop-less c = omega arith
+loop-less c = omega (arith, c .before .loop-test .taken)
 
 loop-again : tie.Need-loop-again Inv-loop μ-loop
-loop-again c = (omega arith, sym (value-more (S (c .before)) (I (c .before)) (within (c .before)) ∙ simp (← c .before .before .loop .inv .1)))
+loop-again c =
+    let t = c .before in
+    (omega (arith, t .loop-test .taken), sym (value-more (S t) (I t) (omega (arith, left t, run-length (S t))) ∙ simp (← t .before .loop .inv .1, ← c .byte-at .ensures)))
 
 returns : tie.Need-returns Inv-loop μ-loop
-returns c = let whole : c .before .loop .i ≡ c .before .before .args .n = omega arith in c .before .loop .inv .1 ∙ simp whole
+returns c =
+    let whole : c .before .loop .i ≡ c .before .before .before .args .n = omega (arith, c .before .loop .inv .0, c .loop-test .left) in
+    c .before .loop .inv .1 ∙ simp whole
 
 pub value-of-spec : {M : Type 1} → statement M
 value-of-spec =
@@ -74,7 +79,7 @@ value-of-spec =
     μ-loop
     loop-holds
     mul-v
-    shared-slice-read-v
+    byte-at-requires
     sub-v
     cast-v
     add-v

@@ -2,7 +2,6 @@
 use Prim.Native.Nat.{_-_, _≤_}
 use mathlib.Core.Path.{_≡_, refl, sym, _∙_}
 use native.Mathlib.Omega.{arith}
-use borrow.Author.Needs.{needs}
 use borrow.Author.Tests.{eq-eqb, ne-eqb}
 use denote.Ref.{now}
 use lib.ListN.{length, drop, drop-of-length-le}
@@ -21,31 +20,31 @@ loop-holds : tie.Need-loop-holds Inv-loop μ-loop
 unfolding nextLf
 loop-holds c = refl
 
-shared-slice-read-if1 : tie.Need-shared-slice-read-if1 Inv-loop μ-loop
-shared-slice-read-if1 c = search needs
+byte-at-requires : tie.Need-byte-at-requires Inv-loop μ-loop
+byte-at-requires c κs = tt
 
 returns : tie.Need-returns Inv-loop μ-loop
 returns c =
-    let l = c .before .before .before in
-    sym (look (now (l .before .args .piece)) (l .loop .i) (omega arith) ∙ simp (eq-eqb _ _ (c .if1 .taken))) ∙ l .loop .inv
+    let t = c .before .before in
+    let l = t .before in
+    sym (look (now (l .before .before .args .piece)) (l .loop .i) (t .loop-test .taken) ∙ simp (eq-eqb _ _ (sym (c .before .byte-at .ensures) ∙ c .if1 .taken))) ∙ l .loop .inv
 
 add-i : tie.Need-add-i Inv-loop μ-loop
-add-i c = search needs
+add-i c = omega (arith, c .before .before .loop-test .taken)
 
 loop-less : tie.Need-loop-less Inv-loop μ-loop
-loop-less c = omega arith
+loop-less c = omega (arith, c .before .before .loop-test .taken)
 
 loop-again : tie.Need-loop-again Inv-loop μ-loop
 loop-again c =
-    let l = c .before .before .before in
-    sym (look (now (l .before .args .piece)) (l .loop .i) (omega arith) ∙ simp (ne-eqb _ _ (c .if1 .left))) ∙ l .loop .inv
+    let t = c .before .before in
+    let l = t .before in
+    sym (look (now (l .before .before .args .piece)) (l .loop .i) (t .loop-test .taken) ∙ simp (ne-eqb _ _ (λ q. c .if1 .left (c .before .byte-at .ensures ∙ q)))) ∙ l .loop .inv
 
 returns-2 : tie.Need-returns-2 Inv-loop μ-loop
 returns-2 c =
     let l = c .before in
-    let piece = now (l .before .args .piece) in
-    let end : length piece ≤ l .loop .i = omega arith in
-    sym (simp (drop-of-length-le piece end)) ∙ l .loop .inv
+    sym (simp (drop-of-length-le (now (l .before .before .args .piece)) (c .loop-test .left))) ∙ l .loop .inv
 
 pub next-lf-spec : {M : Type 1} → statement M
 next-lf-spec =
@@ -54,7 +53,7 @@ next-lf-spec =
     Inv-loop
     μ-loop
     loop-holds
-    shared-slice-read-if1
+    byte-at-requires
     returns
     add-i
     loop-less

@@ -1,30 +1,61 @@
--- No place lies between the two, or the end is within the bytes, or all from the first place on are given. Assumes nothing.
-use Prim.Native.Nat.{ℕ, _-_, _≤_}
+-- The end is no later than the bytes', and the place no later than the end. Assumes nothing.
+use Prim.Native.Nat.{ℕ, _-_, _≤_, _<_, min}
 use mathlib.Core.Path.{_≡_, refl, sym, _∙_}
 use mathlib.Core.List.{List, []}
+use mathlib.Core.Bool.{Bool, true, false}
 use native.Mathlib.Omega.{arith}
 use borrow.Author.Needs.{needs}
+use borrow.Author.Tests.{leb-true, leb-false}
 use borrow.Rule.Slice.PartAt.{part-to-end}
 use denote.Ref.{now}
+use lib.Dec.{leb}
 use lib.ListN.{length, take, drop, length-drop, drop-of-length-le}
 use lib.Seq.{take-all}
 use Rattle.logs.proofs.pieces.part.Statement.{statement}
 use Rattle.logs.proofs.pieces.part.Tie as tie
 
-none-between : (l : List ℕ) (from end : ℕ) → end ≤ from → [] ≡ take (end - from) (drop from l)
-none-between l from end h = let n : end - from ≡ 0 = omega arith in simp n
+module _ (l : List ℕ) (from end f e : ℕ) (p : e ≡ min end (length l)) (q : f ≡ min from e) where
+  none-between : end ≤ from → [] ≡ take (end - from) (drop from l)
+  none-between h = let n : end - from ≡ 0 = omega arith in simp n
 
-none-behind : (l : List ℕ) (from n : ℕ) → length l ≤ from → [] ≡ take n (drop from l)
-none-behind l from n h = sym (take-all n (drop from l) (omega (arith, length-drop from l)) ∙ drop-of-length-le l h)
+  none-behind : length l ≤ from → [] ≡ take (end - from) (drop from l)
+  none-behind h = sym (take-all (end - from) (drop from l) (omega (arith, length-drop from l)) ∙ drop-of-length-le l h)
 
-all-behind : (l : List ℕ) (from end : ℕ) → length l ≤ end → take (length l - from) (drop from l) ≡ take (end - from) (drop from l)
-all-behind l from end h = part-to-end l from ∙ sym (take-all (end - from) (drop from l) (omega (arith, length-drop from l)))
+  all-behind : length l ≤ end → take (length l - from) (drop from l) ≡ take (end - from) (drop from l)
+  all-behind h = part-to-end l from ∙ sym (take-all (end - from) (drop from l) (omega (arith, length-drop from l)))
 
-slice-aggregate-result : tie.Need-slice-aggregate-result
-slice-aggregate-result c = search needs
+  -- some bytes lie between the places, or none
+  some : from ≤ e → (t : Bool) → leb end (length l) ≡ t → take (e - f) (drop f l) ≡ take (end - from) (drop from l)
+  some h true k =
+      let u : end ≤ length l = leb-true _ _ k in
+      let x : f ≡ from = omega arith in
+      let y : e ≡ end = omega arith in
+      rw (x, y)
+  some h false k =
+      let u : length l < end = leb-false _ _ k in
+      let x : f ≡ from = omega arith in
+      let y : e ≡ length l = omega arith in
+      rw (x, y) (all-behind (omega arith))
 
-returns : tie.Need-returns
-returns c = let a = c .before .before .args in none-between (now (a .bytes)) (a .from) (a .end) (omega arith)
+  none : e < from → (t : Bool) → leb end from ≡ t → take (e - f) (drop f l) ≡ take (end - from) (drop from l)
+  none h true k = let z : e - f ≡ 0 = omega arith in rw z (none-between (leb-true _ _ k))
+  none h false k =
+      let u : from < end = leb-false _ _ k in
+      let z : e - f ≡ 0 = omega arith in
+      rw z (none-behind (omega arith))
+
+  clipped : take (e - f) (drop f l) ≡ take (end - from) (drop from l)
+  clipped = go (leb from e) refl
+    where
+      go : (t : Bool) → leb from e ≡ t → take (e - f) (drop f l) ≡ take (end - from) (drop from l)
+      go true h = some (leb-true _ _ h) (leb end (length l)) refl
+      go false h = none (leb-false _ _ h) (leb end from) refl
+
+lesser-requires : tie.Need-lesser-requires
+lesser-requires c κs = tt
+
+lesser-requires-2 : tie.Need-lesser-requires-2
+lesser-requires-2 c κs = tt
 
 sub-result : tie.Need-sub-result
 sub-result c = search needs
@@ -35,40 +66,20 @@ part-result-start c = search needs
 part-result-end : tie.Need-part-result-end
 part-result-end c = search needs
 
-returns-2 : tie.Need-returns-2
-returns-2 c = search needs
-
-sub-result-2 : tie.Need-sub-result-2
-sub-result-2 c = search needs
-
-part-result-start-2 : tie.Need-part-result-start-2
-part-result-start-2 c = search needs
-
-part-result-end-2 : tie.Need-part-result-end-2
-part-result-end-2 c = search needs
-
-returns-3 : tie.Need-returns-3
-returns-3 c = let a = c .before .before .before .before .args in all-behind (now (a .bytes)) (a .from) (a .end) (omega arith)
-
-slice-aggregate-result-2 : tie.Need-slice-aggregate-result-2
-slice-aggregate-result-2 c = search needs
-
-returns-4 : tie.Need-returns-4
-returns-4 c = let a = c .before .before .before .before .args in none-behind (now (a .bytes)) (a .from) (a .end - a .from) (omega arith)
+returns : tie.Need-returns
+returns c =
+    let f = c .before .lesser2 in
+    let e = c .before .before .lesser in
+    let a = c .before .before .before .before .args in
+    clipped (now (a .bytes)) (a .from) (a .end) (f .result) (e .result) (e .ensures) (f .ensures)
 
 pub part-spec : {M : Type 1} → statement M
 part-spec =
     tie.close
     (tie.spec
-    slice-aggregate-result
-    returns
+    lesser-requires
+    lesser-requires-2
     sub-result
     part-result-start
     part-result-end
-    returns-2
-    sub-result-2
-    part-result-start-2
-    part-result-end-2
-    returns-3
-    slice-aggregate-result-2
-    returns-4)
+    returns)

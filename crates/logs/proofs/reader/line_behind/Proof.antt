@@ -1,17 +1,16 @@
 -- The line at the place behind, with the number behind.
-use borrow.Author.Needs.{needs}
 use Rattle.outline.specs.Log.{lineBehind}
 use Rattle.logs.proofs.reader.line_behind.Statement.{statement}
 use Rattle.logs.proofs.reader.line_behind.Tie as tie
 
 place-behind-requires : tie.Need-place-behind-requires
-place-behind-requires c κs = search needs
+place-behind-requires c κs = tt
 
 number-behind-requires : tie.Need-number-behind-requires
-number-behind-requires c κs = search needs
+number-behind-requires c κs = tt
 
 line-at-requires : tie.Need-line-at-requires
-line-at-requires c κs = search needs
+line-at-requires c κs = tt
 
 returns : tie.Need-returns
 unfolding lineBehind
