@@ -3,6 +3,7 @@ ghost use mathlib.Core.Path.{_≡_};
 ghost use Rattle.types.specs.declared.stages.SequenceError.{SequenceError};
 ghost use Rattle.types.specs.declared.stages.Judgement.{Judgement};
 ghost use Rattle.outline.specs.Stages.{openSequence, idleOf, failedOf, startSequence, dischargeSequence, stopError, stopSequence};
+use crate::discharge::is_discharging;
 use types::stages::Judgement;
 use types::stages::Sequence;
 use types::stages::SequenceError;
@@ -82,25 +83,14 @@ pub(crate) fn failed(q: Sequence, e: SequenceError) -> Sequence
     }
 }
 
-// The error of a stop: 4 in 03 to 11, 7 in 14 to 16. It is not asked for in 00, where a stop changes nothing.
+// The error of a stop: 7 in 14 to 16, and else 4. It is not asked for in 00, where a stop changes nothing.
 fn stop_error(stage: Stage) -> SequenceError
     ensures { λ r. ⌜ r ≡ stopError stage ⌝ }
 {
-    match stage {
-        Stage::Idle => SequenceError::Stopped,
-        Stage::StartDelay(_) => SequenceError::Stopped,
-        Stage::LargeDisable(_) => SequenceError::Stopped,
-        Stage::LargeFlow => SequenceError::Stopped,
-        Stage::MediumDisable(_) => SequenceError::Stopped,
-        Stage::MediumFlow => SequenceError::Stopped,
-        Stage::SmallDisable(_) => SequenceError::Stopped,
-        Stage::SmallFlow => SequenceError::Stopped,
-        Stage::JudgeDelay(_) => SequenceError::Stopped,
-        Stage::JudgeWait => SequenceError::Stopped,
-        Stage::DischargeStart(_) => SequenceError::DischargeStopped,
-        Stage::Discharge => SequenceError::DischargeStopped,
-        Stage::DischargeEnd(_) => SequenceError::DischargeStopped,
+    if is_discharging(stage) {
+        return SequenceError::DischargeStopped;
     }
+    SequenceError::Stopped
 }
 
 // A stop: an error in 03 to 11 and in 14 to 16, nothing in 00.

@@ -1,22 +1,69 @@
-// What each stage says of a tick: to which stage the sequence moves, that it fails, that a batch finishes, or that a discharge is over.
+// Step 6 of a batch, stages 03 to 11, at a tick that error 9 has not ended; and what a discharge shares with it.
 ghost use mathlib.Core.Path.{_≡_};
-ghost use Rattle.outline.specs.Stages.{factsAt, waitOf, afterLarge, firstFlow, afterStart, judgedOf, moveOf};
+ghost use mathlib.Core.Bool.{Bool, true, false};
+ghost use lib.IntN.{ℤ};
+ghost use Rattle.types.specs.declared.stages.Stage.{Stage};
+ghost use Rattle.outline.specs.Stages.{factsAt, waitOf, afterLarge, firstFlow, afterStart, judgedOf, idleOf, flowingOf, dischargingOf, clockOf, failedOf, landOf, advanceOf};
 use crate::comparison::is_over;
 use crate::comparison::is_reached;
 use crate::comparison::is_under;
+use crate::sequence::failed;
 use setpoints::has_no_large;
-use setpoints::levels::is_at_near;
 use types::settings::Batching;
 use types::settings::Mode;
+use types::stages::Advanced;
 use types::stages::Judgement;
-use types::stages::Move;
+use types::stages::Sequence;
 use types::stages::SequenceError;
 use types::stages::Setpoints;
 use types::stages::Stage;
 use types::stages::Timing;
 
+// An error ends it.
+pub(crate) fn fail(q: Sequence, e: SequenceError) -> Advanced
+    ensures { λ r. ⌜ r ≡ (record { sequence = failedOf q e; finished = false }) ⌝ }
+{
+    Advanced {
+        sequence: failed(q, e),
+        finished: false,
+    }
+}
+
+// It stays in its stage or moves to another, with the clock of this tick.
+pub(crate) fn to(q: Sequence, clock: u16, stage: Stage) -> Advanced
+    ensures { λ r. ⌜ r ≡ (record { sequence = record { stage = stage; clock = clock; error = q .error; judgement = q .judgement }; finished = false }) ⌝ }
+{
+    let error = q.error;
+    let judgement = q.judgement;
+    Advanced {
+        sequence: Sequence {
+            stage,
+            clock,
+            error,
+            judgement,
+        },
+        finished: false,
+    }
+}
+
+// A batch finishes.
+fn finish(q: Sequence, judgement: Judgement) -> Advanced
+    ensures { λ r. ⌜ r ≡ (record { sequence = record { stage = Stage.Idle; clock = 0; error = q .error; judgement = judgement }; finished = true }) ⌝ }
+{
+    let error = q.error;
+    Advanced {
+        sequence: Sequence {
+            stage: Stage::Idle,
+            clock: 0,
+            error,
+            judgement,
+        },
+        finished: true,
+    }
+}
+
 // A timed stage of n lasts max(n, 1) ticks: t lie before this one.
-fn wait(n: u16, t: u16) -> Timing
+pub(crate) fn wait(n: u16, t: u16) -> Timing
     ensures { λ r. ⌜ r ≡ waitOf n t ⌝ }
 {
     if n <= t {
@@ -52,22 +99,23 @@ fn first_flow(m: Mode, p: Setpoints) -> Stage
     }
 }
 
-// The end of 03.
-fn after_start(m: Mode, p: Setpoints, unfit: bool, stable: bool, v: i64, gross: i32) -> Move
-    ensures { λ r. ⌜ r ≡ afterStart m p (factsAt p unfit stable v gross) ⌝ }
+// The end of 03, whatever is stable and gross: of the weights it asks v alone.
+fn after_start(m: Mode, p: Setpoints, q: Sequence, v: i64) -> Advanced
+    requires { ⌜ clockOf q ≡ 0 ⌝ }
+    ensures { λ r. ⌜ ((s : Bool) (x : ℤ) → r ≡ landOf q (afterStart m p (factsAt p false s v x))) ⌝ }
 {
     if p.target == 0 {
-        return Move::Fail(SequenceError::NoFinal);
+        return fail(q, SequenceError::NoFinal);
     }
     if is_reached(p, p.fall, v) {
-        return Move::Fail(SequenceError::Reached);
+        return fail(q, SequenceError::Reached);
     }
-    Move::To(first_flow(m, p))
+    to(q, 0, first_flow(m, p))
 }
 
-// The judgement of a finish.
-fn judge(p: Setpoints, unfit: bool, stable: bool, v: i64, gross: i32) -> Judgement
-    ensures { λ r. ⌜ r ≡ judgedOf (factsAt p unfit stable v gross) ⌝ }
+// The judgement of a finish, of v alone.
+fn judge(p: Setpoints, v: i64) -> Judgement
+    ensures { λ r. ⌜ ((s : Bool) (x : ℤ) → r ≡ judgedOf (factsAt p false s v x)) ⌝ }
 {
     if is_over(p, v) {
         return Judgement::Over;
@@ -78,85 +126,80 @@ fn judge(p: Setpoints, unfit: bool, stable: bool, v: i64, gross: i32) -> Judgeme
     Judgement::Ok
 }
 
-// What the stage says: each asks of the weights no more than it needs.
-pub(crate) fn moved(
-    b: Batching,
-    p: Setpoints,
-    stage: Stage,
-    unfit: bool,
-    stable: bool,
-    v: i64,
-    gross: i32,
-) -> Move
-    ensures { λ r. ⌜ r ≡ moveOf b p stage (factsAt p unfit stable v gross) ⌝ }
+// 03, in which no clock runs; then 04 to 11. Gross may be what it will: no stage of a batch asks it.
+pub(crate) fn batched(b: Batching, p: Setpoints, q: Sequence, v: i64, stable: bool) -> Advanced
+    requires { ⌜ (idleOf (q .stage) ≡ false) × (dischargingOf (q .stage) ≡ false) ⌝ }
+    ensures { λ r. ⌜ ((x : ℤ) → r ≡ advanceOf b p q (factsAt p false stable v x)) ⌝ }
 {
+    let stage = q.stage;
+    let Stage::StartDelay(t) = stage else {
+        return flowed(b, p, q, v, stable);
+    };
+    match wait(b.start, t) {
+        Timing::Still(u) => return to(q, 0, Stage::StartDelay(u)),
+        Timing::Over => {
+            let mode = b.mode;
+            return after_start(mode, p, q, v);
+        }
+    }
+}
+
+// 04 to 11, where the flow clock runs. It is tested before it grows: at Q it would pass Q in this tick, and error 6 comes. Each arm returns:
+// arms that meet would have the compiler take the sequence apart and put it together again behind them.
+fn flowed(b: Batching, p: Setpoints, q: Sequence, v: i64, stable: bool) -> Advanced
+    requires { ⌜ flowingOf (q .stage) ≡ true ⌝ }
+    ensures { λ r. ⌜ ((x : ℤ) → r ≡ advanceOf b p q (factsAt p false stable v x)) ⌝ }
+{
+    if b.flow <= q.clock {
+        return fail(q, SequenceError::FlowTime);
+    }
+    let clock = q.clock + 1;
+    let stage = q.stage;
     match stage {
-        Stage::Idle => Move::To(Stage::Idle),
-        Stage::StartDelay(t) => match wait(b.start, t) {
-            Timing::Still(u) => Move::To(Stage::StartDelay(u)),
-            Timing::Over => {
-                let mode = b.mode;
-                after_start(mode, p, unfit, stable, v, gross)
-            }
-        },
         Stage::LargeDisable(t) => match wait(b.large, t) {
-            Timing::Still(u) => Move::To(Stage::LargeDisable(u)),
-            Timing::Over => Move::To(Stage::LargeFlow),
+            Timing::Still(u) => return to(q, clock, Stage::LargeDisable(u)),
+            Timing::Over => return to(q, clock, Stage::LargeFlow),
         },
         Stage::LargeFlow => {
             if is_reached(p, p.optional, v) {
-                Move::To(after_large(p))
-            } else {
-                Move::To(Stage::LargeFlow)
+                return to(q, clock, after_large(p));
             }
+            return to(q, clock, Stage::LargeFlow);
         }
         Stage::MediumDisable(t) => match wait(b.medium, t) {
-            Timing::Still(u) => Move::To(Stage::MediumDisable(u)),
-            Timing::Over => Move::To(Stage::MediumFlow),
+            Timing::Still(u) => return to(q, clock, Stage::MediumDisable(u)),
+            Timing::Over => return to(q, clock, Stage::MediumFlow),
         },
         Stage::MediumFlow => {
             if is_reached(p, p.preliminary, v) {
-                Move::To(Stage::SmallDisable(0))
-            } else {
-                Move::To(Stage::MediumFlow)
+                return to(q, clock, Stage::SmallDisable(0));
             }
+            return to(q, clock, Stage::MediumFlow);
         }
         Stage::SmallDisable(t) => match wait(b.small, t) {
-            Timing::Still(u) => Move::To(Stage::SmallDisable(u)),
-            Timing::Over => Move::To(Stage::SmallFlow),
+            Timing::Still(u) => return to(q, clock, Stage::SmallDisable(u)),
+            Timing::Over => return to(q, clock, Stage::SmallFlow),
         },
         Stage::SmallFlow => {
             if is_reached(p, p.fall, v) {
-                Move::To(Stage::JudgeDelay(0))
-            } else {
-                Move::To(Stage::SmallFlow)
+                return to(q, clock, Stage::JudgeDelay(0));
             }
+            return to(q, clock, Stage::SmallFlow);
         }
         Stage::JudgeDelay(t) => match wait(b.judge, t) {
-            Timing::Still(u) => Move::To(Stage::JudgeDelay(u)),
-            Timing::Over => Move::To(Stage::JudgeWait),
+            Timing::Still(u) => return to(q, clock, Stage::JudgeDelay(u)),
+            Timing::Over => return to(q, clock, Stage::JudgeWait),
         },
         Stage::JudgeWait => {
             if stable {
-                Move::Finish(judge(p, unfit, stable, v, gross))
-            } else {
-                Move::To(Stage::JudgeWait)
+                return finish(q, judge(p, v));
             }
+            return to(q, clock, Stage::JudgeWait);
         }
-        Stage::DischargeStart(t) => match wait(b.discharge.start, t) {
-            Timing::Still(u) => Move::To(Stage::DischargeStart(u)),
-            Timing::Over => Move::To(Stage::Discharge),
-        },
-        Stage::Discharge => {
-            if is_at_near(p, gross) {
-                Move::To(Stage::DischargeEnd(0))
-            } else {
-                Move::To(Stage::Discharge)
-            }
-        }
-        Stage::DischargeEnd(t) => match wait(b.discharge.end, t) {
-            Timing::Still(u) => Move::To(Stage::DischargeEnd(u)),
-            Timing::Over => Move::Emptied,
+        // no other stage comes here
+        _ => return Advanced {
+            sequence: q,
+            finished: false,
         },
     }
 }

@@ -41,7 +41,7 @@ pub fn run_block(s: Settings, mut st: State, counts: &[i32], contact: bool) -> B
         if !idle {
             let v = batch::comparison::compared(mode, x);
             let fit = weight::is_fit(x);
-            let a = batch::advance(batching, points, st.sequence, !fit, x.stable, v, x.gross);
+            let a = batch::advance(s.batching, points, st.sequence, !fit, v, x.stable, x.gross);
             if a.finished {
                 st.sequence = totals::booked_sequence(st.totals, v, a.sequence);
                 st.totals = totals::booked_totals(st.totals, v);

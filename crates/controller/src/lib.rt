@@ -105,12 +105,12 @@ pub fn tick(s: Settings, mut st: State, i: Input) -> Ticked
             let v = batch::comparison::compared(mode, served);
             let fit = weight::is_fit(served);
             let a = batch::advance(
-                batching,
+                s.batching,
                 st.setpoints,
                 st.sequence,
                 !fit,
-                served.stable,
                 v,
+                served.stable,
                 served.gross,
             );
             if a.finished {

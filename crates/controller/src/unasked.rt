@@ -32,8 +32,8 @@ pub fn unasked_tick(s: Settings, mut st: State, count: i32, contact: bool) -> Ti
             st.setpoints,
             st.sequence,
             !fit,
-            x.stable,
             v,
+            x.stable,
             x.gross,
         );
         if a.finished {

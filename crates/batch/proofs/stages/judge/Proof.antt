@@ -10,7 +10,7 @@ is-over-requires c κs = search needs
 
 returns : tie.Need-returns
 unfolding judgedOf
-returns c =
+returns c = λ s x.
     let e = simp (toZ-ofZ (c .before .before .fits .v)) at (c .before .is-over .ensures) in
     simp (c .if1 .taken, ← e)
 
@@ -19,14 +19,14 @@ is-under-requires c κs = search needs
 
 returns-2 : tie.Need-returns-2
 unfolding judgedOf
-returns-2 c =
+returns-2 c = λ s x.
     let e = simp (toZ-ofZ (c .before .before .before .before .fits .v)) at (c .before .is-under .ensures) in
     let d = simp (toZ-ofZ (c .before .before .before .before .fits .v)) at (c .before .before .before .is-over .ensures) in
     simp (c .if2 .taken, ← e, c .before .before .if1 .left, ← d)
 
 returns-3 : tie.Need-returns-3
 unfolding judgedOf
-returns-3 c =
+returns-3 c = λ s x.
     let e = simp (toZ-ofZ (c .before .before .before .before .fits .v)) at (c .before .is-under .ensures) in
     let d = simp (toZ-ofZ (c .before .before .before .before .fits .v)) at (c .before .before .before .is-over .ensures) in
     simp (c .if2 .left, ← e, c .before .before .if1 .left, ← d)

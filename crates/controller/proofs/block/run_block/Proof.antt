@@ -35,11 +35,11 @@ fold-more : {A B : Type 0} (f : B → A → B) (b : B) (l : List A) (i : ℕ) (d
 fold-more f b l i d h = rw (add-one, take-suc l i d h, foldl-append)
 
 abbrev Inv-loop : tie.InvT-loop
-Inv-loop s st₀ counts contact points batching mode i₀ st i =
+Inv-loop s st₀ counts contact points mode i₀ st i =
     (i ≤ length counts) × (st ≡ foldl (countIn s contact) st₀ (take i counts)) × (st .setpoints ≡ st₀ .setpoints)
 
 abbrev μ-loop : tie.MeasureT-loop
-μ-loop s st₀ counts contact points batching mode i₀ st i = length counts - i
+μ-loop s st₀ counts contact points mode i₀ st i = length counts - i
 
 -- the block's number beside the block
 numbered : (s : Settings) (st : State) (counts : List ℤ) (contact : Bool) (r : Blocked) → r ≡ blockOf s st counts contact
