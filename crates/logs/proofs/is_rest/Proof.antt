@@ -11,7 +11,7 @@ returns : tie.Need-returns
 returns c = too-short (now (c .before .before .args .rest)) 0 (omega (arith, c .if1 .taken))
 
 returns-2 : tie.Need-returns-2
-returns-2 c = too-long (now (c .before .before .before .args .rest)) 0 (c .if2 .taken)
+returns-2 c = too-long (now (c .before .before .before .args .rest)) 0 (omega (arith, c .if2 .taken))
 
 byte-at-requires : tie.Need-byte-at-requires
 byte-at-requires c κs = tt
@@ -40,7 +40,7 @@ returns-5 c =
     ∙ ap isContact (c .before .byte-at3 .ensures)
     ∙ by-contact (now (few .before .before .before .args .rest)) 0 _ _
     (first .before .byte-at .ensures) (first .if3 .left) (last .before .byte-at2 .ensures) (last .if4 .left)
-    (omega (arith, few .before .if1 .left)) (few .if2 .left)
+    (omega (arith, few .before .if1 .left)) (omega (arith, few .if2 .left))
 
 pub is-rest-spec : {M : Type 1} → statement M
 is-rest-spec =

@@ -2,6 +2,7 @@
 use Prim.Native.Nat.{_+_, _-_, _≤_, _<_, zero-le}
 use mathlib.Core.Path.{_≡_, refl, ap}
 use native.Mathlib.Omega.{arith}
+use borrow.Author.Needs.{needs}
 use denote.Ref.{now}
 use lib.ListN.{length, drop, length-set}
 use Rattle.outline.specs.Log.{between, keptIn}
@@ -37,16 +38,16 @@ module _ (c : tie.In-loop Inv-loop μ-loop) where
   within = omega (arith, c .loop-test .taken, L .loop .inv .2)
 
 add-space : tie.Need-add-space Inv-loop μ-loop
-add-space c = omega (arith, within c)
+add-space c = search needs
 
 slice-read-space : tie.Need-slice-read-space Inv-loop μ-loop
-slice-read-space c = rw (L (c .before) .loop .inv .3) (within (c .before))
+slice-read-space c = search needs
 
 slice-write-space : tie.Need-slice-write-space Inv-loop μ-loop
-slice-write-space c = omega (arith, within (c .before), L (c .before) .loop .inv .3)
+slice-write-space c = search needs
 
 add-i : tie.Need-add-i Inv-loop μ-loop
-add-i c = omega (arith, within (c .before))
+add-i c = search needs
 
 loop-less : tie.Need-loop-less Inv-loop μ-loop
 loop-less c = omega (arith, c .before .loop-test .taken)
