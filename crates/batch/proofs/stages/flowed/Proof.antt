@@ -14,7 +14,7 @@ use Rattle.batch.proofs.StageLaws.{flow-late, flow-on, flow-to, none-le
 use Rattle.batch.proofs.stages.flowed.Statement.{statement}
 use Rattle.batch.proofs.stages.flowed.Tie as tie
 
--- the place below the limit, where the stages part
+-- the place below the limit, where the stages are told apart
 abbrev start : tie.After-struct-known3 → tie.Start
 start k = k .before .before .before .before
 
