@@ -1,8 +1,10 @@
-// The outline's number of each answer, stage and error.
+// The outline's number of each answer, stage and error, and the house's of a judgement.
 ghost use mathlib.Core.Path.{_≡_};
-ghost use Rattle.outline.specs.Numbers.{refusalNumber, toldNumber, stageNumber, errorNumber};
+ghost use Rattle.outline.specs.Numbers.{refusalNumber, outcomeNumber, toldNumber, stageNumber, errorNumber, judgementNumber};
 use types::lines::LineAnswer;
+use types::requests::Outcome;
 use types::requests::Refusal;
+use types::stages::Judgement;
 use types::stages::SequenceError;
 use types::stages::Stage;
 
@@ -18,6 +20,15 @@ pub fn refusal_number(n: Refusal) -> u8
         Refusal::SetpointRules => 6,
         Refusal::NothingToTakeBack => 7,
         Refusal::LossInWeight => 9,
+    }
+}
+
+pub fn outcome_number(o: Outcome) -> u8
+    ensures { λ r. ⌜ r ≡ outcomeNumber o ⌝ }
+{
+    match o {
+        Outcome::Done => 0,
+        Outcome::Refused(n) => refusal_number(n),
     }
 }
 
@@ -67,5 +78,17 @@ pub fn error_number(e: SequenceError) -> u8
         SequenceError::NotBooked => 10,
         SequenceError::DischargeStopped => 7,
         SequenceError::DischargeTime => 8,
+    }
+}
+
+// The numbers of a judgement are the house's.
+pub fn judgement_number(j: Judgement) -> u8
+    ensures { λ r. ⌜ r ≡ judgementNumber j ⌝ }
+{
+    match j {
+        Judgement::None => 0,
+        Judgement::Ok => 1,
+        Judgement::Over => 2,
+        Judgement::Under => 3,
     }
 }

@@ -11,15 +11,11 @@ use borrow.Author.Tests.{leb-true, le-leb}
 use Rattle.whole.specs.Limit.{limit-plain}
 use Rattle.whole.specs.Ints.{ints, linear, int-elim, ints2, ints3, ints6, abs-add}
 use Rattle.types.specs.declared.weight.Raw.the-variants.{Bad, Tenths}
-use Rattle.outline.specs.Limits.{dayTicks, rawLimit, bookLimit}
+use Rattle.outline.specs.Limits.{dayTicks, rawLimit, riseLimit, bookLimit}
 use Rattle.outline.specs.DayBook.{limitOf, bookedOf, inDay, dayCount, ofRefill, laterGood, bookOf, closedOf}
 use Rattle.outline.specs.Day.{Good, riseOf, risesOf, earlyOf, filledAt, isUse, isLate, refilledOf, usedOf, unbookedOf, openingOf, lastOf, daySums}
 use Rattle.whole.specs.Chains.{and-left}
 use Rattle.outline.proofs.Parts.{cond-same, cond-turned, plus-nought, nought-plus}
-
--- the most that raw changes from one good tick to the next
-abbrev riseLimit : ℕ
-riseLimit = 2 * rawLimit
 
 -- what is known of the good ticks of a day that has had n ticks
 pub record Bounded (gs : List Good) (n : ℕ) : Type 0 where
@@ -33,11 +29,11 @@ within-limit : (x : ℤ) → natAbs x ≤ bookLimit → limitOf x ≡ x
 unfolding limitOf
 within-limit x h = limit-plain bookLimit x h
 
-plain : (sum change : ℤ) → natAbs sum + natAbs change ≤ bookLimit → bookedOf sum change ≡ sum +ℤ change
+pub plain : (sum change : ℤ) → natAbs sum + natAbs change ≤ bookLimit → bookedOf sum change ≡ sum +ℤ change
 unfolding bookedOf
 plain sum change h = rw (within-limit sum (omega arith)) (within-limit (sum +ℤ change) (omega (arith, abs-add sum change)))
 
-near : (x y : ℤ) → natAbs x ≤ rawLimit → natAbs y ≤ rawLimit → natAbs (x -ℤ y) ≤ riseLimit
+pub near : (x y : ℤ) → natAbs x ≤ rawLimit → natAbs y ≤ rawLimit → natAbs (x -ℤ y) ≤ riseLimit
 near = ints2 _ (λ a a′ b b′ h k. simp ints (omega (linear, simp ints at h, simp ints at k)))
 
 -- ---- the tick's number: the book counts up to the last tick booked, the history goes on
@@ -68,7 +64,7 @@ taken true r x y h = plain (negℤ r) (y -ℤ x) (h refl) ∙ neg-add r x y
 taken false r x y h = ap negℤ (sym (plus-nought r))
 
 -- unbooked is one fall: from the last raw booked to the last good raw
-one-fall : (u l : ℤ) → natAbs (u +ℤ l) ≤ rawLimit → natAbs l ≤ rawLimit → natAbs u ≤ riseLimit
+pub one-fall : (u l : ℤ) → natAbs (u +ℤ l) ≤ rawLimit → natAbs l ≤ rawLimit → natAbs u ≤ riseLimit
 one-fall = ints2 _ (λ a a′ b b′ h k. simp ints (omega (linear, simp ints at h, simp ints at k)))
 
 -- ---- the book, from tick to tick

@@ -55,6 +55,7 @@ pub mod RangeGuard
 pub mod RangeSetpoints
 pub mod RangeSequence
 pub mod RangeTotals
+pub mod RangeTogether
 pub mod RangeRun
 -- every tick with a line
 pub mod LineEnds

@@ -28,7 +28,7 @@ use Rattle.outline.specs.Requests.{rulingOf, doneOf, grantedOf, decidedO
 use Rattle.outline.specs.Tick.{enteredOf, settledOf, servedOf, withTracking, finishedOf, steppedOf, endedOf, nextOf, outputsOf, tickOf}
 use Rattle.whole.specs.Chains.{or-second}
 
-abbrev noError : SequenceError → Bool
+abbrev pub noError : SequenceError → Bool
 noError error.None = true
 noError error.NoFinal = false
 noError error.Reached = false

@@ -42,7 +42,7 @@ pub record Bounded (r : Range) : Type 0 where
 most : (x : ℤ) (n m : ℕ) → leZ (pos n) x ≡ true → leZ x (pos m) ≡ true → natAbs x ≤ m
 most = int-elim _ (λ a b n m h k. simp ints (omega (linear, simp ints at h, simp ints at k)))
 
-up-to : (x : ℤ) (n m : ℕ) → fromTo n m x ≡ true → natAbs x ≤ m
+pub up-to : (x : ℤ) (n m : ℕ) → fromTo n m x ≡ true → natAbs x ≤ m
 up-to x n m h = let l = links (leZ (pos n) x) (leZ x (pos m) ∷ []) h in most x n m (l .0) (l .1 .0)
 
 one-of : (x : ℤ) (n : ℕ) → n ≤ 50 → eqZ x (pos n) ≡ true → natAbs x ≤ 50

@@ -1,5 +1,5 @@
 -- The sequence stays in its range: no stage outlasts its time, neither clock stands above its limit, no error stands outside stage 00 and
--- no judgement in a batch, and mode 2 has no discharge. Assumes nothing.
+-- no judgement in a batch, and mode 2 has no discharge and no error of one. Assumes nothing.
 use Prim.Native.Nat.{ℕ, suc, _<_, _≤_, max}
 use native.Mathlib.Omega.{arith}
 use mathlib.Core.Path.{_≡_, refl, sym, _∙_}
@@ -35,7 +35,8 @@ use Rattle.outline.specs.Stages.{comparedOf, factsOf, waitOf, timed, unt
 use Rattle.outline.specs.Totals.{bookable, bookedSequence}
 use Rattle.outline.specs.Requests.{lossMode, rowsTo, doneOf, rulingOf, grantedOf, decidedOf}
 use Rattle.outline.specs.Tick.{enteredOf, settledOf, withTracking, finishedOf, steppedOf, endedOf, nextOf}
-use Rattle.outline.specs.Ranges.{TimerRange, SequenceRange}
+use Rattle.outline.specs.Ranges.{ofDischarge, TimerRange, SequenceRange}
+use Rattle.whole.specs.Chains.{and-left}
 use Rattle.outline.proofs.Parts.{none-applies, cond-in, clash}
 
 -- ---- the clocks' stages: those of a batch are none of a discharge's
@@ -83,9 +84,10 @@ of-discharge g e = go (dischargingOf g) refl
     go true k = k
     go false k = absurd (clash e (not-emptying g k))
 
--- ---- to stage 00, with whatever error and judgement
-rest-in : (b : Batching) (e : SequenceError) (j : Judgement) → SequenceRange b (record { stage = Idle; clock = 0; error = e; judgement = j })
-rest-in b e j = record {
+-- ---- to stage 00, with whatever judgement, and with an error that the mode has
+rest-in : (b : Batching) (e : SequenceError) (j : Judgement) → (ofDischarge e ≡ true → b .mode ≡ mode.Normal)
+    → SequenceRange b (record { stage = Idle; clock = 0; error = e; judgement = j })
+rest-in b e j n = record {
   timer = tt;
   flow-clock = λ k. omega arith;
   discharge-clock = λ k. omega arith;
@@ -93,7 +95,12 @@ rest-in b e j = record {
   no-error = λ k. absurd (clash refl k);
   no-judgement = λ k. absurd (clash refl k);
   normal = λ k. absurd (clash k refl);
+  normal-error = n;
 }
+
+-- an error that no discharge gives
+common : (b : Batching) (e : SequenceError) → ofDischarge e ≡ false → ofDischarge e ≡ true → b .mode ≡ mode.Normal
+common b e n k = absurd (clash k n)
 
 -- ---- step 4: start, discharge and stop
 start-in : (b : Batching) → SequenceRange b startSequence
@@ -105,6 +112,7 @@ start-in b = record {
   no-error = λ k. refl;
   no-judgement = λ k. refl;
   normal = λ k. absurd (clash k refl);
+  normal-error = λ k. absurd (clash k refl);
 }
 
 -- a discharge is accepted in mode 1 alone
@@ -121,11 +129,19 @@ discharge-in b q e = record {
   no-error = λ k. refl;
   no-judgement = λ k. absurd (clash refl k);
   normal = λ k. is-normal (b .mode) e;
+  normal-error = λ k. is-normal (b .mode) e;
 }
+
+stop-error : (g : Stage) → ofDischarge (stopError g) ≡ true → dischargingOf g ≡ true
+stop-error g = go (dischargingOf g)
+  where
+    go : (t : Bool) → ofDischarge (cond t error.DischargeStopped error.Stopped) ≡ true → t ≡ true
+    go true e = refl
+    go false e = absurd (clash e refl)
 
 stop-in : (b : Batching) (q : Sequence) → SequenceRange b q → SequenceRange b (stopSequence q)
 unfolding stopSequence
-stop-in b q h = cond-in (SequenceRange b) (idleOf (q .stage)) (λ e. h) (λ e. rest-in b (stopError (q .stage)) (q .judgement))
+stop-in b q h = cond-in (SequenceRange b) (idleOf (q .stage)) (λ e. h) (λ e. rest-in b (stopError (q .stage)) (q .judgement) (λ k. h .normal (stop-error (q .stage) k)))
 
 module _ (s : Settings) (st : State) (x : Weights) (h : SequenceRange (s .batching) (st .sequence)) where
   granted-sequence : (r : Request) → doneOf (rulingOf s st x r) ≡ true → SequenceRange (s .batching) (grantedOf st x r .state .sequence)
@@ -159,7 +175,7 @@ record StageIn (b : Batching) (from to : Stage) : Type 0 where
 
 abbrev MoveIn : Batching → Stage → Move → Type 0
 MoveIn b from (To to) = StageIn b from to
-MoveIn b from (Fail e) = Unit {0}
+MoveIn b from (Fail e) = ofDischarge e ≡ false
 MoveIn b from (Finish j) = Unit {0}
 MoveIn b from Emptied = Unit {0}
 
@@ -196,7 +212,7 @@ module _ (b : Batching) (from : Stage) where
     after-start : (m : Mode) (p : Setpoints) (f : Facts) → MoveIn b from (afterStart m p f)
     unfolding afterStart
     after-start m p f =
-        cond-in (MoveIn b from) (eqb (p .target) 0) (λ e. tt) (λ e. cond-in (MoveIn b from) (f .small) (λ k. tt) (λ k. first-flow m p))
+        cond-in (MoveIn b from) (eqb (p .target) 0) (λ e. refl) (λ e. cond-in (MoveIn b from) (f .small) (λ k. refl) (λ k. first-flow m p))
 
 move-in : (b : Batching) (p : Setpoints) (g : Stage) (f : Facts) → idleOf g ≡ false → MoveIn b g (moveOf b p g f)
 unfolding moveOf
@@ -270,20 +286,21 @@ land-in b q (To g) idle late slow h m = record {
     no-error = λ e. h .no-error idle;
     no-judgement = λ e. h .no-judgement (rw (idle, sym (m .same) ∙ or-right (idleOf g) (dischargingOf g) e));
     normal = λ e. h .normal (sym (m .same) ∙ e);
+    normal-error = h .normal-error;
   };
   finished = λ e. absurd (clash e refl);
 }
-land-in b q (Fail e) idle late slow h m = record { sequence = rest-in b e (q .judgement); finished = λ k. refl }
-land-in b q (Finish j) idle late slow h m = record { sequence = rest-in b (q .error) j; finished = λ k. refl }
-land-in b q Emptied idle late slow h m = record { sequence = rest-in b (q .error) (q .judgement); finished = λ k. refl }
+land-in b q (Fail e) idle late slow h m = record { sequence = rest-in b e (q .judgement) (common b e m); finished = λ k. refl }
+land-in b q (Finish j) idle late slow h m = record { sequence = rest-in b (q .error) j (h .normal-error); finished = λ k. refl }
+land-in b q Emptied idle late slow h m = record { sequence = rest-in b (q .error) (q .judgement) (h .normal-error); finished = λ k. refl }
 
 advance-in : (b : Batching) (p : Setpoints) (q : Sequence) (f : Facts) → SequenceRange b q → AdvancedIn b (advanceOf b p q f)
 unfolding advanceOf
 advance-in b p q f h =
     cond-in (AdvancedIn b) (idleOf (q .stage)) (λ e. record { sequence = h; finished = λ k. e })
-    (λ idle. cond-in (AdvancedIn b) (f .unfit) (λ e. record { sequence = rest-in b error.BadWeight (q .judgement); finished = λ k. refl })
-    (λ fit. cond-in (AdvancedIn b) (lateOf b q) (λ e. record { sequence = rest-in b error.FlowTime (q .judgement); finished = λ k. refl })
-    (λ late. cond-in (AdvancedIn b) (slowOf b q) (λ e. record { sequence = rest-in b error.DischargeTime (q .judgement); finished = λ k. refl })
+    (λ idle. cond-in (AdvancedIn b) (f .unfit) (λ e. record { sequence = rest-in b error.BadWeight (q .judgement) (common b error.BadWeight refl); finished = λ k. refl })
+    (λ fit. cond-in (AdvancedIn b) (lateOf b q) (λ e. record { sequence = rest-in b error.FlowTime (q .judgement) (common b error.FlowTime refl); finished = λ k. refl })
+    (λ late. cond-in (AdvancedIn b) (slowOf b q) (λ e. record { sequence = rest-in b error.DischargeTime (q .judgement) (λ k. h .normal (of-discharge (q .stage) (and-left (emptyingOf (q .stage)) _ e))); finished = λ k. refl })
     (λ slow. land-in b q (moveOf b p (q .stage) f) idle late slow h (move-in b p (q .stage) f idle)))))
 
 -- a batch that cannot be booked makes an error, in stage 00
@@ -297,6 +314,7 @@ booked-in b t v q h idle = cond-in (SequenceRange b) (bookable t v) (λ e. h) (�
   no-error = λ k. absurd (clash idle k);
   no-judgement = h .no-judgement;
   normal = h .normal;
+  normal-error = common b error.NotBooked refl;
 })
 
 finished-sequence : (s : Settings) (st : State) (x : Weights) (a : Advanced) → AdvancedIn (s .batching) a → SequenceRange (s .batching) (finishedOf s st x a .sequence)

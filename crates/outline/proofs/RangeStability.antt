@@ -48,11 +48,11 @@ granted-stability st x request.ShowNet = refl
 granted-stability st x request.DayClose = refl
 granted-stability st x request.Discharge = refl
 
-settled-stability : (s : Settings) (st : State) (x : Weights) (r : Request) → decidedOf s st x r .state .stability ≡ st .stability
+pub settled-stability : (s : Settings) (st : State) (x : Weights) (r : Request) → decidedOf s st x r .state .stability ≡ st .stability
 unfolding decidedOf
 settled-stability s st x r = simp (granted-stability st x r, cond-same)
 
-ended-stability : (s : Settings) (a : Settled) (x : Weights) → endedOf s a x .stability ≡ a .state .stability
+pub ended-stability : (s : Settings) (a : Settled) (x : Weights) → endedOf s a x .stability ≡ a .state .stability
 unfolding endedOf steppedOf finishedOf withTracking
 ended-stability s a x = simp cond-same
 

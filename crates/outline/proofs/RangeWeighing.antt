@@ -4,7 +4,7 @@ use Prim.Native.Nat.{ℕ, suc, _+_, _*_, _<_, _≤_, max}
 use native.Mathlib.Nat as N
 use native.Mathlib.Omega.{arith}
 use mathlib.Core.Path.{_≡_, refl, sym}
-use mathlib.Core.Bool.{Bool, true, not, _&&_}
+use mathlib.Core.Bool.{Bool, true, false, not, _&&_}
 use mathlib.Core.List.{[], _∷_}
 use lib.Dec.{leb, leb·zero}
 use lib.IntN.{ℤ, pos, negsuc, natAbs, _+ℤ_, _-ℤ_, _*ℤ_}
@@ -82,6 +82,7 @@ module _ (r : Range) (t : Tracking) (w : Weighing) (h : WeighingRange r t w) whe
         keyed = rw (nought raw) near;
         tracked = omega arith;
         counter = h .counter;
+        off = λ k. (h .off k .0, refl);
         tare-least = h .tare-least;
         tare-most = h .tare-most;
       }
@@ -92,6 +93,7 @@ module _ (r : Range) (t : Tracking) (w : Weighing) (h : WeighingRange r t w) whe
     keyed = h .keyed;
     tracked = h .tracked;
     counter = h .counter;
+    off = h .off;
     tare-least = least;
     tare-most = most;
   }
@@ -134,44 +136,57 @@ module _ (s : Settings) (st : State) (x : Weights) (weighed : Weighed (s .range)
 keyed-same : (raw zero tracked : ℤ) → natAbs (raw -ℤ (tracked +ℤ (raw -ℤ zero))) ≡ natAbs (zero -ℤ tracked)
 keyed-same = ints3 _ (λ a a′ b b′ c c′. simp ints (omega linear))
 
+-- a tick that counts: tracking is on, and the tick is good and in stage 00
+pub record Counts (t : Tracking) (idle : Bool) (x : Weights) : Type 0 where
+  pub on : trackingOn t ≡ true
+  pub good : x .good ≡ true
+  pub rests : idle ≡ true
+
+pub counts : (t : Tracking) (idle keyed : Bool) (x : Weights) → trackingOn t && calmOf t idle keyed x ≡ true → Counts t idle x
+counts t idle keyed x e =
+    let calm = links (fitOf x) (idle ∷ not keyed ∷ within (t .width) (x .fine) ∷ []) (and-right (trackingOn t) (calmOf t idle keyed x) e) in
+    record {
+      on = and-left (trackingOn t) (calmOf t idle keyed x) e;
+      good = and-left (x .good) (not (x .overload)) (calm .0);
+      rests = calm .1 .0;
+    }
+
 module _ (s : Settings) (w : Weighing) (x : Weights) (v : Weighed (s .range) w x) (h : In s w) where
-  counter-in : (n : ℕ) → n < max (s .tracking .time) 1 → In s (withCounter w n)
-  counter-in n k = record {
+  counter-in : (n : ℕ) → n < max (s .tracking .time) 1 → (trackingOn (s .tracking) ≡ false → n ≡ 0) → In s (withCounter w n)
+  counter-in n k o = record {
     zero = h .zero;
     keyed = h .keyed;
     tracked = h .tracked;
     counter = k;
+    off = λ e. (o e, h .off e .1);
     tare-least = h .tare-least;
     tare-most = h .tare-most;
   }
 
-  moved-in : x .good ≡ true → mayMove s w x ≡ true → In s (movedOf w x)
-  moved-in good e = record {
+  none-in : In s (withCounter w 0)
+  none-in = counter-in 0 (omega arith) (λ e. refl)
+
+  moved-in : {idle : Bool} → Counts (s .tracking) idle x → mayMove s w x ≡ true → In s (movedOf w x)
+  moved-in c e = record {
     zero = leb-true _ _ (and-left (inZeroRange (s .range) (x .raw)) (within (s .tracking .allowance) (w .tracked +ℤ x .fine)) e);
-    keyed = rw (v .fine good, keyed-same (x .raw) (w .zero) (w .tracked)) (h .keyed);
+    keyed = rw (v .fine (c .good), keyed-same (x .raw) (w .zero) (w .tracked)) (h .keyed);
     tracked = leb-true _ _ (and-right (inZeroRange (s .range) (x .raw)) (within (s .tracking .allowance) (w .tracked +ℤ x .fine)) e);
     counter = omega arith;
+    off = λ k. absurd (clash (c .on) k);
     tare-least = h .tare-least;
     tare-most = h .tare-most;
   }
 
-  counted-in : x .good ≡ true → In s (countedUp s w x)
-  counted-in good =
+  counted-in : {idle : Bool} → Counts (s .tracking) idle x → In s (countedUp s w x)
+  counted-in c =
       cond-in (In s) (leb (s .tracking .time) (suc (w .counter)))
-      (λ e. cond-in (In s) (mayMove s w x) (moved-in good) (λ k. counter-in 0 (omega arith)))
-      (λ e. counter-in (suc (w .counter)) (omega (arith, leb-false (s .tracking .time) (suc (w .counter)) e)))
-
-  -- a tick that counts is good
-  calm-good : (idle keyed : Bool) → trackingOn (s .tracking) && calmOf (s .tracking) idle keyed x ≡ true → x .good ≡ true
-  calm-good idle keyed e =
-      let calm = and-right (trackingOn (s .tracking)) (calmOf (s .tracking) idle keyed x) e in
-      let fit = links (fitOf x) (idle ∷ not keyed ∷ within (s .tracking .width) (x .fine) ∷ []) calm .0 in
-      and-left (x .good) (not (x .overload)) fit
+      (λ e. cond-in (In s) (mayMove s w x) (moved-in c) (λ k. none-in))
+      (λ e. counter-in (suc (w .counter)) (omega (arith, leb-false (s .tracking .time) (suc (w .counter)) e)) (λ k. absurd (clash (c .on) k)))
 
   tracked-in : (idle keyed : Bool) → In s (trackedOf s idle keyed x w)
   unfolding trackedOf
   tracked-in idle keyed =
-      cond-in (In s) (trackingOn (s .tracking) && calmOf (s .tracking) idle keyed x) (λ e. counted-in (calm-good idle keyed e)) (λ e. counter-in 0 (omega arith))
+      cond-in (In s) (trackingOn (s .tracking) && calmOf (s .tracking) idle keyed x) (λ e. counted-in (counts (s .tracking) idle keyed x e)) (λ e. none-in)
 
   -- the tick's weights
   weights-in : WeightsRange (s .range) x
@@ -184,7 +199,7 @@ module _ (s : Settings) (w : Weighing) (x : Weights) (v : Weighed (s .range) w x
       net-in e = omega (arith, v .net, gross-in e, h .tare-most)
 
 -- ---- a whole tick: step 6 leaves it
-ended-weighing : (s : Settings) (a : Settled) (x : Weights) → endedOf s a x .weighing ≡ trackedOf s (idleNow (a .state)) (a .keyed) x (a .state .weighing)
+pub ended-weighing : (s : Settings) (a : Settled) (x : Weights) → endedOf s a x .weighing ≡ trackedOf s (idleNow (a .state)) (a .keyed) x (a .state .weighing)
 unfolding endedOf steppedOf finishedOf withTracking
 ended-weighing s a x = simp cond-same
 

@@ -95,7 +95,11 @@ decimalDigits = 20
 abbrev pub rawLimit : ℕ
 rawLimit = 4000000
 
--- refilled, used and unbooked stop at it: dayTicks changes of at most twice rawLimit each; unbooked is the difference of two raws, however many ticks
+-- the most that raw changes from one good tick to the next: twice rawLimit
+abbrev pub riseLimit : ℕ
+riseLimit = 8000000
+
+-- refilled, used and unbooked stop at it: dayTicks changes of at most riseLimit each; unbooked is the difference of two raws, however many ticks
 abbrev pub bookLimit : ℕ
 bookLimit = 69120000000000
 

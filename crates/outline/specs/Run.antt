@@ -22,6 +22,10 @@ unfoldable pub runOf : Settings → History Input → State
 runOf s start = openState
 runOf s (h ▷ i) = nextOf s (runOf s h) i
 
+-- the state after the ticks of a list, from whatever state
+unfoldable pub runFrom : Settings → State → List Input → State
+runFrom s st is = foldl (nextOf s) st is
+
 -- a history and then the inputs of a list, the first one first
 unfoldable pub thenAll : {A : Type 0} → History A → List A → History A
 thenAll h is = foldl _▷_ h is

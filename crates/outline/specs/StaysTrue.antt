@@ -30,11 +30,11 @@ use Rattle.outline.specs.Replies.{framed, dueText, lineTickOf}
 use Rattle.outline.specs.Log.{requestTick}
 use Rattle.outline.specs.Owed.{Accepted}
 use Rattle.outline.specs.Kinds.{Asked, nothing, undo, clear, requestKind}
-use Rattle.outline.specs.Run.{History, _▷_, runOf, thenAll, blockInputs, lineInput, logInput, withoutRequest}
+use Rattle.outline.specs.Run.{History, _▷_, runOf, runFrom, thenAll, blockInputs, lineInput, logInput, withoutRequest}
 use Rattle.outline.specs.Day.{tapeOf, bookHistory}
 use Rattle.outline.specs.Zeroing.{seenRun, zeroingOf, sumOf, AllWithin}
 use Rattle.outline.specs.Ledger.{eventRun, ledgerOf, sumN}
-use Rattle.outline.specs.Ranges.{StateRange, WeightsRange, Unstopped}
+use Rattle.outline.specs.Ranges.{Balanced, StateRange, WeightsRange, Unstopped}
 
 -- ---- 1. "the day balances (opening + refilled - used - unbooked is the last good raw)"
 abbrev pub Balance : Type 0
@@ -181,3 +181,15 @@ pub record Discharges (s : Settings) (st : State) (i : Input) : Type 0 where
 
 abbrev pub DischargeIsNoBatch : Type 0
 DischargeIsNoBatch = (s : Settings) (st : State) (i : Input) → Discharges s st i
+
+-- ---- 14. A3: what stays true from every state that is in range and whose day balances, whoever made it
+pub record Keeps (s : Settings) (st : State) : Type 0 where
+  -- the tracked sum keeps the allowance, as every field keeps its range
+  pub range : StateRange s st
+  pub balance : Balanced (st .book)
+  pub gates : (i : Input) →
+      let a = tickOf s st i .answer in
+      (a .error ≡ error.None → ⊥) → a .gates ≡ shut
+
+abbrev pub FromRange : Type 0
+FromRange = (s : Settings) (st : State) → StateRange s st → Balanced (st .book) → (is : List Input) → Keeps s (runFrom s st is)

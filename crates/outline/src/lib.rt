@@ -17,7 +17,7 @@ ghost use Rattle.outline.specs.RefillFigures.{Refills};
 ghost use Rattle.outline.specs.Owed.{OpeningLaw, RawLaw, SetpointLaw, TimedLaw};
 ghost use Rattle.outline.specs.AnalogOwed.{ScaleLaw, AnalogLaws};
 ghost use Rattle.outline.specs.EveryLine.{ReplyBounded, BytesStay, AnsweredInOrder, RefusedLines, ReadBackOnLine, GatesShutOnLine, TicketOnLine, NeverTogetherOnLine};
-ghost use Rattle.outline.specs.StaysTrue.{Balance, SumsOfHistory, NothingElse, ZeroInForce, TotalOfBatches, GatesShut, InRange, Refusals, ReadBack, Ticket, BlocksAreRuns, LinesAreRuns, LogsAreRuns, NeverTogether, DischargeIsNoBatch};
+ghost use Rattle.outline.specs.StaysTrue.{Balance, SumsOfHistory, NothingElse, ZeroInForce, TotalOfBatches, GatesShut, InRange, Refusals, ReadBack, Ticket, BlocksAreRuns, LinesAreRuns, LogsAreRuns, NeverTogether, DischargeIsNoBatch, FromRange};
 
 // The figures of the outline and the laws that the definitions owe. It does nothing: it stands here so that the check's list names
 // them, and misses them if a proof goes.
@@ -74,6 +74,7 @@ pub fn every_run()
     ensures logs { λ r. ⌜ LogsAreRuns ⌝ }
     ensures apart { λ r. ⌜ NeverTogether ⌝ }
     ensures discharge { λ r. ⌜ DischargeIsNoBatch ⌝ }
+    ensures from_range { λ r. ⌜ FromRange ⌝ }
 {}
 
 // What holds of every tick with a line, for whatever settings and state or for every run. It does nothing, and stands here as

@@ -16,7 +16,8 @@ use types::settings::Tracking;
 
 mod ranges;
 
-fn mode_of(m: i32) -> Mode
+// Mode 1, or 2 where the number is any other.
+pub fn mode_of(m: i32) -> Mode
     ensures { λ r. ⌜ r ≡ modeOf m ⌝ }
 {
     if m == 1 { Mode::Normal } else { Mode::Loss }

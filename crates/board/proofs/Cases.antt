@@ -1,0 +1,203 @@
+-- What a call answers and leaves, by what it was refused with. Assumes nothing.
+use Prim.Native.Nat.{ℕ, _≤_}
+use native.Mathlib.Omega.{arith}
+use mathlib.Core.Path.{_≡_, refl, sym}
+use mathlib.Core.Bool.{Bool, true, false, cond}
+use mathlib.Core.List.{List}
+use lib.Dec.{eqb}
+use lib.ListN.{length}
+use lib.IntN.{ℤ}
+use borrow.Author.Tests.{eq-eqb, ne-eqb, eqb-true, le-leb}
+use Rattle.types.specs.declared.settings.Given.{Given}
+use Rattle.types.specs.declared.settings.Settings.{Settings}
+use Rattle.types.specs.declared.settings.Opening.the-variants as opening
+use Rattle.types.specs.declared.requests.Request.{Request}
+use Rattle.types.specs.declared.machine.State.{State}
+use Rattle.types.specs.declared.machine.Input.{Input}
+use Rattle.types.specs.declared.machine.Ticked.{Ticked}
+use Rattle.outline.specs.Settings.{settingsOf, openOf}
+use Rattle.outline.specs.Numbers.{blockNumber, toldNumber}
+use Rattle.outline.specs.Tick.{openState, tickOf, blockOf}
+use Rattle.outline.specs.Replies.{lineTickOf, replyBuffer}
+use Rattle.outline.proofs.Opened.{passed}
+use Rattle.outline.proofs.Parts.{clash}
+use Rattle.places.specs.Places.{sameBytes}
+use Rattle.images.specs.StateImage.{stateLength, imageOf, stateAt}
+use Rattle.images.specs.Possible.{possible}
+use Rattle.images.specs.Images.{stateRefusal, stateIn, written}
+use Rattle.images.specs.GivenImage.{givenIn}
+use Rattle.images.proofs.Tests.{write-good}
+use Rattle.board.specs.AskedBy.{isRequest}
+use Rattle.board.specs.AnswerImage.{answerLength, answerBuffer}
+use Rattle.board.specs.Board.{imagesRefusal, callRefusal, givenBy, settingsBy, stateBy, refusalBy, unless, lengthRefusal, openAnswer, openImage, ifRoom, tickBy, toldOf, tickAnswer, tickImage, tickBuffer, lineBy, lineAnswer, lineImage, lineReply, lineBuffer, blockBy, blockAnswer, blockImage}
+
+-- ---- the first refusal
+module _ (a b : ℕ) (g : Given) where
+  pub by-images : (imagesRefusal a b ≡ 0 → ⊥) → callRefusal a b g ≡ imagesRefusal a b
+  unfolding callRefusal
+  by-images n = simp (ne-eqb (imagesRefusal a b) 0 n)
+
+  pub by-settings : imagesRefusal a b ≡ 0 → openOf g ≡ opening.Refused → callRefusal a b g ≡ 10
+  unfolding callRefusal
+  by-settings e o = simp (e, o)
+
+  pub by-none : (s : Settings) → imagesRefusal a b ≡ 0 → openOf g ≡ opening.Accepted s → callRefusal a b g ≡ 0
+  unfolding callRefusal
+  by-none s e o = simp (e, o)
+
+  pub state-passes : imagesRefusal a b ≡ 0 → b ≡ 0
+  unfolding imagesRefusal
+  state-passes = go (eqb a 20) (eqb b 20) (eqb a 0) refl
+    where
+      go : (p q r : Bool) → eqb a 0 ≡ r → _≡_ {A = ℕ} (cond p 20 (cond q 20 (cond r b a))) 0 → b ≡ 0
+      go true q r k e = absurd (omega arith)
+      go false true r k e = absurd (omega arith)
+      go false false true k e = e
+      go false false false k e = absurd (clash (eq-eqb a 0 e) k)
+
+-- accepted settings are what is made of the numbers given
+pub made-of : (g : Given) (s : Settings) → openOf g ≡ opening.Accepted s → settingsOf g ≡ s
+made-of g s e = passed g s e .made
+
+-- ---- lengths
+pub length-passes : (n : ℕ) → lengthRefusal n ≡ 0 → n ≡ stateLength
+unfolding lengthRefusal
+length-passes n = go (eqb n stateLength) refl
+  where
+    go : (t : Bool) → eqb n stateLength ≡ t → _≡_ {A = ℕ} (cond t 0 20) 0 → n ≡ stateLength
+    go true e h = eqb-true n stateLength e
+    go false e h = absurd (omega arith)
+
+refusal-length : (g : Given) (l : List ℕ) (st : State) → stateRefusal g l st ≡ 0 → length l ≡ stateLength
+unfolding stateRefusal
+refusal-length g l st = go (eqb (length l) stateLength) refl
+  where
+    go : (t : Bool) → eqb (length l) stateLength ≡ t → _≡_ {A = ℕ} (cond t (cond (possible (settingsOf g) st) (cond (sameBytes (imageOf st) l) 0 21) 21) 20) 0 → length l ≡ stateLength
+    go true e h = eqb-true (length l) stateLength e
+    go false e h = absurd (omega arith)
+
+pub image-long : (g : Given) (l : List ℕ) → stateIn g l .refusal ≡ 0 → length l ≡ stateLength
+unfolding stateIn
+image-long g l e = refusal-length g l (stateAt l) e
+
+-- ---- what stands after a refusal, and without one
+module _ {A : Type 0} (r : ℕ) (done kept : A) where
+  pub is-kept : (r ≡ 0 → ⊥) → kept ≡ unless r done kept
+  is-kept n = simp (ne-eqb r 0 n)
+
+  pub is-done : r ≡ 0 → done ≡ unless r done kept
+  is-done e = simp e
+
+-- an answer buffer that has room
+module _ {A : Type 0} (answer : List ℕ) (done kept : A) where
+  pub is-room : answerLength ≤ length answer → done ≡ ifRoom answer done kept
+  is-room h = simp (le-leb answerLength (length answer) h)
+
+-- ---- the same ticks, of equal settings, states and inputs
+pub same-input : {a b : ℤ} {r q : Request} (contact : Bool) → a ≡ b → r ≡ q
+    → _≡_ {A = Input} (record { count = a; contact = contact; request = r }) (record { count = b; contact = contact; request = q })
+same-input contact e f = λ i. record { count = e i; contact = contact; request = f i }
+
+pub same-tick : {s s′ : Settings} {st st′ : State} {i j : Input} → s ≡ s′ → st ≡ st′ → i ≡ j → tickOf s st i ≡ tickOf s′ st′ j
+same-tick e f h = λ k. tickOf (e k) (f k) (h k)
+
+pub same-told : {p q : Bool} {a b : Ticked} → p ≡ q → a ≡ b → toldOf p a ≡ toldOf q b
+same-told e f = λ k. toldOf (e k) (f k)
+
+pub same-line : {s s′ : Settings} {st st′ : State} {a b : ℤ} (contact : Bool) (receive reply : List ℕ) → s ≡ s′ → st ≡ st′ → a ≡ b
+    → lineTickOf s st a contact receive reply ≡ lineTickOf s′ st′ b contact receive reply
+same-line contact receive reply e f h = λ k. lineTickOf (e k) (f k) (h k) contact receive reply
+
+pub same-reply : {s s′ : Settings} {st st′ : State} {a b : ℤ} (contact : Bool) (receive reply : List ℕ) → s ≡ s′ → st ≡ st′ → a ≡ b
+    → replyBuffer s st a contact receive reply ≡ replyBuffer s′ st′ b contact receive reply
+same-reply contact receive reply e f h = λ k. replyBuffer (e k) (f k) (h k) contact receive reply
+
+pub same-block : {s s′ : Settings} {st st′ : State} (counts : List ℤ) (contact : Bool) → s ≡ s′ → st ≡ st′ → blockOf s st counts contact ≡ blockOf s′ st′ counts contact
+same-block counts contact e f = λ k. blockOf (e k) (f k) counts contact
+
+-- ---- open
+module _ (l t : List ℕ) where
+  abbrev whyOpen : ℕ
+  whyOpen = imagesRefusal (givenIn l .refusal) (lengthRefusal (length t))
+
+  pub open-images : (whyOpen ≡ 0 → ⊥) → (whyOpen ≡ openAnswer l (length t)) × (t ≡ openImage l t)
+  unfolding openAnswer openImage
+  open-images n =
+      let e = by-images (givenIn l .refusal) (lengthRefusal (length t)) (givenBy l) n in
+      (sym e, rw e (is-kept whyOpen (imageOf openState) t n))
+
+  pub open-settings : whyOpen ≡ 0 → openOf (givenBy l) ≡ opening.Refused → (10 ≡ openAnswer l (length t)) × (t ≡ openImage l t)
+  unfolding openAnswer openImage
+  open-settings w o = let e = by-settings (givenIn l .refusal) (lengthRefusal (length t)) (givenBy l) w o in (sym e, rw e)
+
+  pub open-good : (s : Settings) → whyOpen ≡ 0 → openOf (givenBy l) ≡ opening.Accepted s → (0 ≡ openAnswer l (length t)) × (written openState t ≡ openImage l t)
+  unfolding openAnswer openImage
+  open-good s w o =
+      let e = by-none (givenIn l .refusal) (lengthRefusal (length t)) (givenBy l) s w o in
+      (sym e, rw e (sym (write-good openState t (length-passes (length t) (state-passes (givenIn l .refusal) (lengthRefusal (length t)) (givenBy l) w)))))
+
+-- ---- the calls that read both images
+module _ (l t : List ℕ) where
+  abbrev why : ℕ
+  why = imagesRefusal (givenIn l .refusal) (stateIn (givenBy l) t .refusal)
+
+  pub both-images : (why ≡ 0 → ⊥) → refusalBy l t ≡ why
+  unfolding refusalBy
+  both-images n = by-images (givenIn l .refusal) (stateIn (givenBy l) t .refusal) (givenBy l) n
+
+  pub both-settings : why ≡ 0 → openOf (givenBy l) ≡ opening.Refused → refusalBy l t ≡ 10
+  unfolding refusalBy
+  both-settings w o = by-settings (givenIn l .refusal) (stateIn (givenBy l) t .refusal) (givenBy l) w o
+
+  pub both-good : (s : Settings) → why ≡ 0 → openOf (givenBy l) ≡ opening.Accepted s → refusalBy l t ≡ 0
+  unfolding refusalBy
+  both-good s w o = by-none (givenIn l .refusal) (stateIn (givenBy l) t .refusal) (givenBy l) s w o
+
+  pub state-long : why ≡ 0 → length t ≡ stateLength
+  state-long w = image-long (givenBy l) t (state-passes (givenIn l .refusal) (stateIn (givenBy l) t .refusal) (givenBy l) w)
+
+  -- a tick
+  module _ (count : ℤ) (contact : Bool) (n : ℕ) (points answer : List ℕ) where
+    pub tick-kept : (r : ℕ) → refusalBy l t ≡ r → (r ≡ 0 → ⊥)
+        → (r ≡ tickAnswer l t count contact n points answer) × (t ≡ tickImage l t count contact n points answer) × (answer ≡ tickBuffer l t count contact n points answer)
+    unfolding tickAnswer tickImage tickBuffer
+    tick-kept r e k = rw e (is-kept r _ r k, is-kept r _ t k, is-kept r _ answer k)
+
+    pub tick-done : refusalBy l t ≡ 0 → length t ≡ stateLength →
+        let a = tickBy l t count contact n points in
+        (ifRoom answer (toldOf (isRequest n points) a) 14 ≡ tickAnswer l t count contact n points answer)
+        × (ifRoom answer (written (a .state) t) t ≡ tickImage l t count contact n points answer)
+        × (ifRoom answer (answerBuffer (toldOf (isRequest n points) a) 0 (a .answer) answer) answer ≡ tickBuffer l t count contact n points answer)
+    unfolding tickAnswer tickImage tickBuffer
+    tick-done e k = rw (e, sym (write-good (tickBy l t count contact n points .state) t k)) (refl, refl, refl)
+
+  -- a tick with a line
+  module _ (count : ℤ) (contact : Bool) (receive reply answer : List ℕ) where
+    pub line-kept : (r : ℕ) → refusalBy l t ≡ r → (r ≡ 0 → ⊥)
+        → (r ≡ lineAnswer l t count contact receive reply answer)
+        × (t ≡ lineImage l t count contact receive reply answer)
+        × (reply ≡ lineReply l t count contact receive reply answer)
+        × (answer ≡ lineBuffer l t count contact receive reply answer)
+    unfolding lineAnswer lineImage lineReply lineBuffer
+    line-kept r e k = rw e (is-kept r _ r k, is-kept r _ t k, is-kept r _ reply k, is-kept r _ answer k)
+
+    pub line-done : refusalBy l t ≡ 0 → length t ≡ stateLength →
+        let a = lineBy l t count contact receive reply in
+        (ifRoom answer (toldNumber (a .told)) 14 ≡ lineAnswer l t count contact receive reply answer)
+        × (ifRoom answer (written (a .state) t) t ≡ lineImage l t count contact receive reply answer)
+        × (ifRoom answer (replyBuffer (settingsBy l) (stateBy l t) count contact receive reply) reply ≡ lineReply l t count contact receive reply answer)
+        × (ifRoom answer (answerBuffer (toldNumber (a .told)) (a .length) (a .answer) answer) answer ≡ lineBuffer l t count contact receive reply answer)
+    unfolding lineAnswer lineImage lineReply lineBuffer
+    line-done e k = rw (e, sym (write-good (lineBy l t count contact receive reply .state) t k)) (refl, refl, refl, refl)
+
+  -- a block
+  module _ (counts : List ℤ) (contact : Bool) where
+    pub block-kept : (r : ℕ) → refusalBy l t ≡ r → (r ≡ 0 → ⊥) → (r ≡ blockAnswer l t counts contact) × (t ≡ blockImage l t counts contact)
+    unfolding blockAnswer blockImage
+    block-kept r e k = rw e (is-kept r _ r k, is-kept r _ t k)
+
+    pub block-done : refusalBy l t ≡ 0 → length t ≡ stateLength →
+        let b = blockBy l t counts contact in
+        (blockNumber (b .answer) ≡ blockAnswer l t counts contact) × (written (b .state) t ≡ blockImage l t counts contact)
+    unfolding blockAnswer blockImage
+    block-done e k = rw (e, sym (write-good (blockBy l t counts contact .state) t k)) (refl, refl)

@@ -1,0 +1,4 @@
+pub mod AskedBy
+pub mod AnswerImage
+pub mod Board
+pub mod Owed

@@ -1,0 +1,57 @@
+-- Each row is written over the bytes that the rows before it left.
+use mathlib.Core.Path.{_∙_}
+use borrow.Author.Needs.{needs}
+use Rattle.places.specs.Places.{putBe, putAll}
+use Rattle.images.proofs.parts.put_setpoints.Statement.{statement}
+use Rattle.images.proofs.parts.put_setpoints.Tie as tie
+
+put-u32-requires : tie.Need-put-u32-requires
+put-u32-requires c κs = search needs
+
+put-u32-requires-2 : tie.Need-put-u32-requires-2
+put-u32-requires-2 c κs = search needs
+
+put-u32-requires-3 : tie.Need-put-u32-requires-3
+put-u32-requires-3 c κs = search needs
+
+put-u32-requires-4 : tie.Need-put-u32-requires-4
+put-u32-requires-4 c κs = search needs
+
+put-u32-requires-5 : tie.Need-put-u32-requires-5
+put-u32-requires-5 c κs = search needs
+
+put-u32-requires-6 : tie.Need-put-u32-requires-6
+put-u32-requires-6 c κs = search needs
+
+put-u32-requires-7 : tie.Need-put-u32-requires-7
+put-u32-requires-7 c κs = search needs
+
+same-length : tie.Need-same-length
+same-length c = search needs
+
+returns : tie.Need-returns
+unfolding putAll
+returns c =
+    let a = c .before .before .before .before .before .before .before .before .before .before .before .before .before .before .before .before .before .before .before .before .before .before .before .before .before .before .before .before .before in
+    let p = a .args .p in
+    let e1 = c .before .before .before .before .before .before .before .before .before .before .before .before .before .before .before .before .before .before .before .before .before .before .before .before .before .before .put-u32 .ensures in
+    let e2 = c .before .before .before .before .before .before .before .before .before .before .before .before .before .before .before .before .before .before .before .before .before .before .put-u322 .ensures ∙ (λ i. putBe 4 (p .fall) (e1 i) 64) in
+    let e3 = c .before .before .before .before .before .before .before .before .before .before .before .before .before .before .before .before .before .before .put-u323 .ensures ∙ (λ i. putBe 4 (p .preliminary) (e2 i) 68) in
+    let e4 = c .before .before .before .before .before .before .before .before .before .before .before .before .before .before .put-u324 .ensures ∙ (λ i. putBe 4 (p .optional) (e3 i) 72) in
+    let e5 = c .before .before .before .before .before .before .before .before .before .before .put-u325 .ensures ∙ (λ i. putBe 4 (p .over) (e4 i) 76) in
+    let e6 = c .before .before .before .before .before .before .put-u326 .ensures ∙ (λ i. putBe 4 (p .under) (e5 i) 80) in
+    c .before .before .put-u327 .ensures ∙ (λ i. putBe 4 (p .near) (e6 i) 84)
+
+pub put-setpoints-spec : {M : Type 1} → statement M
+put-setpoints-spec =
+    tie.close
+    (tie.spec
+    put-u32-requires
+    put-u32-requires-2
+    put-u32-requires-3
+    put-u32-requires-4
+    put-u32-requires-5
+    put-u32-requires-6
+    put-u32-requires-7
+    same-length
+    returns)

@@ -1,0 +1,26 @@
+-- Each row is written over the bytes that the rows before it left.
+use mathlib.Core.Path.{_∙_}
+use borrow.Author.Needs.{needs}
+use Rattle.places.specs.Places.{putBe, putAll}
+use Rattle.images.proofs.parts.put_stability.Statement.{statement}
+use Rattle.images.proofs.parts.put_stability.Tie as tie
+
+put-flag-requires : tie.Need-put-flag-requires
+put-flag-requires c κs = search needs
+
+put-u16-requires : tie.Need-put-u16-requires
+put-u16-requires c κs = search needs
+
+same-length : tie.Need-same-length
+same-length c = search needs
+
+returns : tie.Need-returns
+unfolding putAll
+returns c =
+    let a = c .before .before .before .before .before .before .before .before .before in
+    let q = a .args .q in
+    let e1 = c .before .before .before .before .before .before .put-flag .ensures in
+    c .before .before .put-u16 .ensures ∙ (λ i. putBe 2 (q .run) (e1 i) 42)
+
+pub put-stability-spec : {M : Type 1} → statement M
+put-stability-spec = tie.close (tie.spec put-flag-requires put-u16-requires same-length returns)

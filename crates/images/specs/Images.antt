@@ -1,0 +1,32 @@
+-- What a state image is read as, under settings as they are given, and what a buffer is after a state was written to it.
+use Prim.Native.Nat.{ℕ}
+use mathlib.Core.List.{List}
+use mathlib.Core.Bool.{cond}
+use lib.Dec.{eqb}
+use lib.ListN.{length}
+use Rattle.places.specs.Places.{sameBytes}
+use Rattle.types.specs.declared.settings.Given.{Given}
+use Rattle.types.specs.declared.machine.State.{State}
+use Rattle.outline.specs.Settings.{settingsOf}
+use Rattle.images.specs.declared.state.StateRead.{StateRead}
+use Rattle.images.specs.StateImage.{stateLength, imageOf, stateAt}
+use Rattle.images.specs.Possible.{possible}
+
+-- "20 wrong image length, then 21 impossible field": 21 where the state at the places is not possible under the settings' numbers as they are
+-- given, or where, written again, it does not give the same bytes. That one comparison refuses an unused byte that is not 0, a number that
+-- names nothing and a value that has no use.
+unfoldable pub stateRefusal : Given → List ℕ → State → ℕ
+stateRefusal g l st =
+    cond (eqb (length l) stateLength)
+    (cond (possible (settingsOf g) st)
+    (cond (sameBytes (imageOf st) l) 0 21)
+    21)
+    20
+
+-- the refusal, or 0, and the state; where it is refused the state is only what stands at the places
+unfoldable pub stateIn : Given → List ℕ → StateRead
+stateIn g l = record { refusal = stateRefusal g l (stateAt l); state = stateAt l }
+
+-- a buffer of the image's length holds the state's image; one of another length stays as it is
+unfoldable pub written : State → List ℕ → List ℕ
+written st l = cond (eqb (length l) stateLength) (imageOf st) l

@@ -1,0 +1,5 @@
+pub mod StateImage
+pub mod GivenImage
+pub mod Possible
+pub mod Images
+pub mod Owed

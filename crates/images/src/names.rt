@@ -1,0 +1,164 @@
+// What has a name in a state, as a number and back: total, so a number that names nothing reads as the first name. It is found out when the
+// state is written again, and gives another byte.
+ghost use mathlib.Core.Path.{_≡_};
+ghost use Rattle.images.specs.StateImage.{displayNumber, displayOf, stageOf, stageTimer, errorOf, judgementOf, backTag, backWeight, backOf};
+use types::stages::Batch;
+use types::stages::Judgement;
+use types::stages::SequenceError;
+use types::stages::Stage;
+use types::weight::Display;
+
+pub(crate) fn display_number(d: Display) -> u8
+    ensures { λ r. ⌜ r ≡ displayNumber d ⌝ }
+{
+    match d {
+        Display::Gross => 0,
+        Display::Net => 1,
+    }
+}
+
+pub(crate) fn display_of(n: u8) -> Display
+    ensures { λ r. ⌜ r ≡ displayOf n ⌝ }
+{
+    if n == 1 {
+        return Display::Net;
+    }
+    Display::Gross
+}
+
+// A stage by the outline's number, with the ticks that a timed one has lasted.
+pub(crate) fn stage_of(n: u8, timer: u16) -> Stage
+    ensures { λ r. ⌜ r ≡ stageOf n timer ⌝ }
+{
+    if n == 3 {
+        return Stage::StartDelay(timer);
+    }
+    if n == 4 {
+        return Stage::LargeDisable(timer);
+    }
+    if n == 5 {
+        return Stage::LargeFlow;
+    }
+    if n == 6 {
+        return Stage::MediumDisable(timer);
+    }
+    if n == 7 {
+        return Stage::MediumFlow;
+    }
+    if n == 8 {
+        return Stage::SmallDisable(timer);
+    }
+    if n == 9 {
+        return Stage::SmallFlow;
+    }
+    if n == 10 {
+        return Stage::JudgeDelay(timer);
+    }
+    if n == 11 {
+        return Stage::JudgeWait;
+    }
+    if n == 14 {
+        return Stage::DischargeStart(timer);
+    }
+    if n == 15 {
+        return Stage::Discharge;
+    }
+    if n == 16 {
+        return Stage::DischargeEnd(timer);
+    }
+    Stage::Idle
+}
+
+// The ticks that a timed stage has lasted; 0 for any other.
+pub(crate) fn stage_timer(stage: Stage) -> u16
+    ensures { λ r. ⌜ r ≡ stageTimer stage ⌝ }
+{
+    match stage {
+        Stage::Idle => 0,
+        Stage::StartDelay(t) => t,
+        Stage::LargeDisable(t) => t,
+        Stage::LargeFlow => 0,
+        Stage::MediumDisable(t) => t,
+        Stage::MediumFlow => 0,
+        Stage::SmallDisable(t) => t,
+        Stage::SmallFlow => 0,
+        Stage::JudgeDelay(t) => t,
+        Stage::JudgeWait => 0,
+        Stage::DischargeStart(t) => t,
+        Stage::Discharge => 0,
+        Stage::DischargeEnd(t) => t,
+    }
+}
+
+pub(crate) fn error_of(n: u8) -> SequenceError
+    ensures { λ r. ⌜ r ≡ errorOf n ⌝ }
+{
+    if n == 1 {
+        return SequenceError::NoFinal;
+    }
+    if n == 2 {
+        return SequenceError::Reached;
+    }
+    if n == 4 {
+        return SequenceError::Stopped;
+    }
+    if n == 6 {
+        return SequenceError::FlowTime;
+    }
+    if n == 9 {
+        return SequenceError::BadWeight;
+    }
+    if n == 10 {
+        return SequenceError::NotBooked;
+    }
+    if n == 7 {
+        return SequenceError::DischargeStopped;
+    }
+    if n == 8 {
+        return SequenceError::DischargeTime;
+    }
+    SequenceError::None
+}
+
+pub(crate) fn judgement_of(n: u8) -> Judgement
+    ensures { λ r. ⌜ r ≡ judgementOf n ⌝ }
+{
+    if n == 1 {
+        return Judgement::Ok;
+    }
+    if n == 2 {
+        return Judgement::Over;
+    }
+    if n == 3 {
+        return Judgement::Under;
+    }
+    Judgement::None
+}
+
+// Whether a batch can be taken back, and its weight, 0 where there is none.
+pub(crate) fn back_tag(back: Batch) -> u8
+    ensures { λ r. ⌜ r ≡ backTag back ⌝ }
+{
+    match back {
+        Batch::Nothing => 0,
+        Batch::Weight(_) => 1,
+    }
+}
+
+pub(crate) fn back_weight(back: Batch) -> u64
+    ensures { λ r. ⌜ r ≡ backWeight back ⌝ }
+{
+    match back {
+        Batch::Nothing => 0,
+        Batch::Weight(v) => v,
+    }
+}
+
+pub(crate) fn back_of(n: u8, weight: u64) -> Batch
+    ensures { λ r. ⌜ r ≡ backOf n weight ⌝ }
+{
+    if n == 1 {
+        return Batch::Weight(weight);
+    }
+    Batch::Nothing
+}

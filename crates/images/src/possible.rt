@@ -1,0 +1,271 @@
+// What a state can be, under settings as they are given: the test behind 21, range by range of specs/Possible.antt. A number of the settings
+// counts without its sign; whether the settings are in their own ranges is asked later, and answered with 10.
+ghost use mathlib.Core.Path.{_≡_};
+ghost use Prim.Native.Nat.{_+_, _*_, _≤_, max};
+ghost use lib.Dec.{leb};
+ghost use lib.IntN.{natAbs, _+ℤ_, _-ℤ_};
+ghost use Rattle.whole.specs.Ints.{eqZ};
+ghost use Rattle.outline.specs.Limits.{rawLimit, riseLimit};
+ghost use Rattle.outline.specs.Settings.{settingsOf};
+ghost use Rattle.images.specs.Possible.{blankBook, bookPossible, stabilityPossible, weighingPossible, timeOf, clockLimit, sequenceFits, totalsPossible, flowPossible, togetherFits, possible};
+ghost use Rattle.outline.specs.Zero.{trackingOn};
+use crate::names::back_tag;
+use crate::names::back_weight;
+use crate::names::stage_timer;
+use numbers::error_number;
+use numbers::judgement_number;
+use numbers::stage_number;
+use setpoints::has_no_large;
+use setpoints::setpoints_fit;
+use settings::mode_of;
+use types::daybook::Book;
+use types::machine::State;
+use types::settings::Given;
+use types::settings::Mode;
+use types::stages::Setpoints;
+use types::stages::Totals;
+use types::weight::Stability;
+use types::weight::Weighing;
+use whole::magnitude;
+use whole::wide;
+
+const RAW_LIMIT: u32 = 4_000_000;
+
+// The most that raw changes from one good tick to the next.
+const RISE_LIMIT: u64 = 8_000_000;
+
+const DAY_TICKS: u32 = 8_640_000;
+
+const TOTAL_LIMIT: u64 = 99_999_999;
+
+const BATCH_LIMIT: u32 = 99_999_999;
+
+// |x|
+fn size(x: i32) -> u32
+    ensures { λ r. ⌜ r ≡ natAbs x ⌝ }
+{
+    magnitude(wide(x)) as u32
+}
+
+// n, or 1 where it is 0: so long is a timed stage of n.
+fn at_least_one(n: u32) -> u32
+    ensures { λ r. ⌜ r ≡ max n 1 ⌝ }
+{
+    if n == 0 {
+        return 1;
+    }
+    n
+}
+
+// Before the first good tick.
+fn is_blank(b: Book) -> bool
+    ensures { λ r. ⌜ r ≡ blankBook b ⌝ }
+{
+    !b.contact
+        & (b.opening == 0)
+        & (b.last == 0)
+        & (b.refilled == 0)
+        & (b.used == 0)
+        & (b.unbooked == 0)
+}
+
+fn is_raw(x: i32) -> bool
+    ensures { λ r. ⌜ r ≡ leb (natAbs x) rawLimit ⌝ }
+{
+    size(x) <= RAW_LIMIT
+}
+
+// What stands at the places may be any number: a sum is made of two that are found small enough for it. No day's sum is near this.
+const SUM_ROOM: u64 = 1_000_000_000_000_000_000;
+
+fn sums_fit(refilled: i64, used: i64, ticks: u32) -> bool
+    ensures { λ r. ⌜ r ≡ leb (natAbs refilled + natAbs used) (riseLimit * ticks) ⌝ }
+{
+    let r = magnitude(refilled);
+    if r > SUM_ROOM {
+        return false;
+    }
+    let u = magnitude(used);
+    if u > SUM_ROOM {
+        return false;
+    }
+    r + u <= RISE_LIMIT * (ticks as u64)
+}
+
+fn fall_fits(unbooked: i64, last: i32) -> bool
+    ensures { λ r. ⌜ r ≡ leb (natAbs (unbooked +ℤ last)) rawLimit ⌝ }
+{
+    if magnitude(unbooked) > SUM_ROOM {
+        return false;
+    }
+    magnitude(unbooked + (last as i64)) <= (RAW_LIMIT as u64)
+}
+
+// Of sums that fit.
+fn is_balanced(opening: i32, refilled: i64, used: i64, unbooked: i64, last: i32) -> bool
+    requires { ⌜ natAbs refilled + natAbs used ≤ 1000000000000000000 ⌝ }
+    requires { ⌜ natAbs unbooked ≤ 1000000000000000000 ⌝ }
+    ensures { λ r. ⌜ r ≡ eqZ (opening +ℤ refilled -ℤ used -ℤ unbooked) last ⌝ }
+{
+    (opening as i64) + refilled - used - unbooked == (last as i64)
+}
+
+fn is_book(b: Book) -> bool
+    ensures { λ r. ⌜ r ≡ bookPossible b ⌝ }
+{
+    if !sums_fit(b.refilled, b.used, b.ticks) {
+        return false;
+    }
+    if !fall_fits(b.unbooked, b.last) {
+        return false;
+    }
+    (b.ticks <= DAY_TICKS)
+        & is_raw(b.opening)
+        & is_raw(b.last)
+        & ((DAY_TICKS <= b.ticks) | (b.unbooked == 0))
+        & (b.begun | is_blank(b))
+        & is_balanced(b.opening, b.refilled, b.used, b.unbooked, b.last)
+}
+
+fn is_stability(g: Given, q: Stability) -> bool
+    ensures { λ r. ⌜ r ≡ stabilityPossible (settingsOf g .steadiness) q ⌝ }
+{
+    ((q.run as u32) <= size(g.stabletime)) & (q.good | (q.run == 0))
+}
+
+fn is_tracking(g: Given) -> bool
+    ensures { λ r. ⌜ r ≡ trackingOn (settingsOf g .tracking) ⌝ }
+{
+    (0 < size(g.tracktime)) & (0 < size(g.trackwidth))
+}
+
+fn is_weighing(g: Given, w: Weighing) -> bool
+    ensures { λ r. ⌜ r ≡ weighingPossible (settingsOf g .range) (settingsOf g .tracking) w ⌝ }
+{
+    let capacity = size(g.capacity) as u64;
+    let zeroes = capacity * (size(g.zeroing) as u64) / 10;
+    let tares = capacity * (size(g.division) as u64);
+    (magnitude(wide(w.zero)) <= zeroes)
+        & (magnitude(whole::difference(w.zero, w.tracked)) <= zeroes)
+        & (size(w.tracked) <= size(g.allowance))
+        & ((w.counter as u32) < at_least_one(size(g.tracktime)))
+        & (0 <= w.tare)
+        & (magnitude(wide(w.tare)) <= tares)
+        & (is_tracking(g) | ((w.counter == 0) & (w.tracked == 0)))
+}
+
+// The setting of a timed stage, by its number; 0 for any other.
+fn time_of(g: Given, n: u8) -> u32
+    ensures { λ r. ⌜ r ≡ timeOf (settingsOf g .batching) n ⌝ }
+{
+    if n == 3 {
+        return size(g.start);
+    }
+    if n == 4 {
+        return size(g.large);
+    }
+    if n == 6 {
+        return size(g.medium);
+    }
+    if n == 8 {
+        return size(g.small);
+    }
+    if n == 10 {
+        return size(g.judge);
+    }
+    if n == 14 {
+        return size(g.dischargestart);
+    }
+    if n == 16 {
+        return size(g.dischargeend);
+    }
+    0
+}
+
+// The most that the clock of a stage shows, by its number; 0 where none runs.
+fn clock_limit(g: Given, n: u8) -> u32
+    ensures { λ r. ⌜ r ≡ clockLimit (settingsOf g .batching) n ⌝ }
+{
+    if n < 4 {
+        return 0;
+    }
+    if n <= 11 {
+        return size(g.flow);
+    }
+    if 15 <= n {
+        return size(g.dischargelimit);
+    }
+    0
+}
+
+// By the stage's number n, its timer t, the error's number e and the judgement's j.
+fn is_sequence(g: Given, n: u8, t: u16, clock: u16, e: u8, j: u8) -> bool
+    ensures { λ r. ⌜ r ≡ sequenceFits (settingsOf g .batching) n t clock e j ⌝ }
+{
+    ((t as u32) < at_least_one(time_of(g, n)))
+        & ((clock as u32) <= clock_limit(g, n))
+        & ((n == 0) | (e == 0))
+        & ((n == 0) | (14 <= n) | (j == 0))
+        & ((g.mode == 1) | !((14 <= n) | (e == 7) | (e == 8)))
+}
+
+fn is_totals(t: Totals) -> bool
+    ensures { λ r. ⌜ r ≡ totalsPossible t ⌝ }
+{
+    let back = t.back;
+    (t.total <= TOTAL_LIMIT)
+        & (t.count <= BATCH_LIMIT)
+        & (back_weight(back) <= t.total)
+        & ((back_tag(back) as u32) <= t.count)
+}
+
+// The flow stages that a batch with these setpoints has, by the stage's number.
+fn flow_fits(m: Mode, p: Setpoints, n: u8) -> bool
+    ensures { λ r. ⌜ r ≡ flowPossible m p n ⌝ }
+{
+    let target = p.target;
+    let preliminary = p.preliminary;
+    ((n < 4) | (11 < n) | (target != 0))
+        & (!((n == 4) | (n == 5)) | !has_no_large(m, p))
+        & (!((n == 6) | (n == 7)) | (preliminary != 0))
+}
+
+fn is_together(m: Mode, p: Setpoints, n: u8, good: bool, begun: bool, counter: u16) -> bool
+    ensures { λ r. ⌜ r ≡ togetherFits m p n good begun counter ⌝ }
+{
+    (!good | begun) & ((n == 0) | good) & (((n == 0) & good) | (counter == 0)) & flow_fits(m, p, n)
+}
+
+fn given_mode(g: Given) -> Mode
+    ensures { λ r. ⌜ r ≡ settingsOf g .batching .mode ⌝ }
+{
+    mode_of(g.mode)
+}
+
+pub(crate) fn is_possible(g: Given, st: State) -> bool
+    ensures { λ r. ⌜ r ≡ possible (settingsOf g) st ⌝ }
+{
+    let mode = given_mode(g);
+    let q = st.sequence;
+    let stage = q.stage;
+    let error = q.error;
+    let judgement = q.judgement;
+    let n = stage_number(stage);
+    let t = stage_timer(stage);
+    let e = error_number(error);
+    let j = judgement_number(judgement);
+    is_book(st.book)
+        & is_stability(g, st.stability)
+        & is_weighing(g, st.weighing)
+        & setpoints_fit(mode, st.setpoints)
+        & is_sequence(g, n, t, q.clock, e, j)
+        & is_totals(st.totals)
+        & is_together(
+            mode,
+            st.setpoints,
+            n,
+            st.stability.good,
+            st.book.begun,
+            st.weighing.counter,
+        )
+}
