@@ -269,7 +269,7 @@ static inline void track(const struct settings *s, struct state *st, const struc
 
 /* ---- Setpoints ----------------------------------------------------------- */
 
-static bool setpoint_rules(const struct settings *s, const struct setpoints *p)
+bool setpoint_rules(int32_t mode, const struct setpoints *p)
 {
     if (!within(p->final, 0, SETPOINT_LIMIT) || !within(p->free_fall, 0, SETPOINT_LIMIT)
         || !within(p->preliminary, 0, SETPOINT_LIMIT) || !within(p->optional, 0, SETPOINT_LIMIT)
@@ -283,7 +283,7 @@ static bool setpoint_rules(const struct settings *s, const struct setpoints *p)
         && !(p->preliminary > p->free_fall && p->preliminary <= p->final))
         return false;
     /* in mode 1, OP is 0, or more than FF and P and at most F */
-    if (s->mode == MODE_NORMAL && p->optional != 0
+    if (mode == MODE_NORMAL && p->optional != 0
         && !(p->optional > p->free_fall && p->optional > p->preliminary
              && p->optional <= p->final))
         return false;
@@ -333,7 +333,7 @@ static int refusal(const struct settings *s, const struct state *st, const struc
     case REQUEST_SETPOINTS:
         if (st->stage != 0)
             return ANSWER_STAGE;
-        return setpoint_rules(s, &r->setpoints) ? ANSWER_DONE : ANSWER_SETPOINTS;
+        return setpoint_rules(s->mode, &r->setpoints) ? ANSWER_DONE : ANSWER_SETPOINTS;
     case REQUEST_UNDO:
         return st->undo ? ANSWER_DONE : ANSWER_NO_UNDO;
     case REQUEST_DAY_CLOSE:

@@ -194,6 +194,9 @@ enum line_kind {
 /* 0, or 10 and nothing written. */
 int open_controller(const struct given *g, struct settings *s, struct state *st);
 
+/* Whether these may be in use in this mode: refusal 6 is given where not. */
+bool setpoint_rules(int32_t mode, const struct setpoints *p);
+
 /* A tick with a request (or none) asked directly. */
 void tick(const struct settings *s, struct state *st, int32_t count, bool contact,
           struct request r, struct outcome *o, struct outputs *out);
