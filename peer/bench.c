@@ -2,19 +2,22 @@
  * of a tick can be set side by side, and both are seen to end in the same state with the same outputs.
  *
  * The input, in which a number is three bytes, the least first:
- *     the mode: 1 a block's ticks, 2 ticks without a request, 3 ticks with a request, 4 ticks with a line
+ *     the mode: 1 a block's ticks, 2 ticks without a request, 3 ticks with a request, 4 ticks with a line, 5 image: those of 2 through
+ *         the C calls of board/pressgully.h, from images to images
  *     the rounds
  *     the 25 settings, in the order of the outline's table, the discharge's three behind them
  *     the 7 setpoints, in the order of the command SS
  *     the count of the ticks before the first round
  * then 16 lines of 64 bytes, each a serial command with its CR LF and zeros behind it, and up to three blocks of 4,096 counts.
  *
- * A round is three blocks. Before a block the modes 1 and 2 have a tick with a request: the setpoints, a start, a stop. Before the first
- * round each mode takes the first count once. */
+ * A round is three blocks. Before a block the modes 1, 2 and 5 have a tick with a request: the setpoints, a start, a stop. Before the first
+ * round each of the modes 1 to 4 takes the first count once. Mode 5 begins in the state that this leads to, and so prints what 2 prints. */
+#include "../board/pressgully.h"
 #include "controller.h"
 
 #include <inttypes.h>
 #include <stdio.h>
+#include <string.h>
 
 enum { NUMBER_BYTES = 3, NUMBERS = 2 + SETTING_NUMBERS + 7 + 1, LINES = 16, LINE_BYTES = 64, BLOCKS = 3, REPLY_ROOM = 64 };
 
@@ -39,6 +42,11 @@ struct run {
     struct seen seen;
     uint64_t ticks;
     uint8_t reply[REPLY_ROOM];
+
+    /* of mode 5 alone, in which `s` and `st` rest */
+    uint8_t settings[PRESSGULLY_SETTINGS];
+    uint8_t image[PRESSGULLY_STATE];
+    uint32_t set[PRESSGULLY_POINTS];
 };
 
 static int32_t number(const uint8_t bytes[NUMBER_BYTES])
@@ -167,6 +175,89 @@ static void line_ticks(struct run *run, uint8_t lines[LINES][LINE_BYTES], const 
     run->ticks += n;
 }
 
+/* ---- Mode 5: images -------------------------------------------------------------- */
+
+/* A number of an image or an answer; those of four and eight bytes have a sign. */
+static int64_t big_endian(const uint8_t *at, size_t width)
+{
+    int64_t x = width >= 4 && at[0] >= 0x80 ? -1 : 0;
+
+    for (size_t i = 0; i < width; i++)
+        x = 256 * x + at[i];
+    return x;
+}
+
+static uint32_t image_tick(struct run *run, int32_t count, uint32_t request, uint8_t answer[PRESSGULLY_ANSWER])
+{
+    return pressgully_tick(run->settings, PRESSGULLY_SETTINGS, run->image, PRESSGULLY_STATE, count, false, request, run->set, PRESSGULLY_POINTS,
+                           answer, PRESSGULLY_ANSWER);
+}
+
+/* Opens the images, and has them take the ticks that `st` took before the first round. */
+static void begin_images(struct run *run, const struct given *g, const int32_t *first, const uint8_t line[LINE_BYTES])
+{
+    uint8_t answer[PRESSGULLY_ANSWER];
+
+    for (size_t i = 0; i < SETTING_NUMBERS; i++)
+        for (size_t byte = 0; byte < 4; byte++)
+            run->settings[4 * i + byte] = (uint8_t)((uint32_t)g->value[i] >> (24 - 8 * byte));
+    memcpy(run->set, &run->points, sizeof run->set);
+    pressgully_open(run->settings, PRESSGULLY_SETTINGS, run->image, PRESSGULLY_STATE);
+    image_tick(run, 0, PRESSGULLY_SET, answer);
+    pressgully_block(run->settings, PRESSGULLY_SETTINGS, run->image, PRESSGULLY_STATE, first, 1, false);
+    image_tick(run, 0, PRESSGULLY_START, answer);
+    image_tick(run, *first, PRESSGULLY_NOTHING, answer);
+    image_tick(run, *first, PRESSGULLY_TARE_CLEAR, answer);
+    pressgully_line(run->settings, PRESSGULLY_SETTINGS, run->image, PRESSGULLY_STATE, *first, false, line, LINE_BYTES, run->reply, REPLY_ROOM,
+                    answer, PRESSGULLY_ANSWER);
+}
+
+/* What `look` looks at. */
+static struct outputs outputs_of(const uint8_t answer[PRESSGULLY_ANSWER])
+{
+    const int64_t analog = big_endian(answer + 56, 8);
+    struct outputs out = {
+        .good = answer[1], .overload = answer[2], .stable = answer[3], .large = answer[5], .medium = answer[6], .small = answer[7],
+        .discharge = answer[8], .near_zero = answer[11], .full = answer[12], .day_closed = answer[14],
+        .gross = (int32_t)big_endian(answer + 16, 4), .net = (int32_t)big_endian(answer + 20, 4),
+        .day.opening = (int32_t)big_endian(answer + 24, 4)
+    };
+
+    memcpy(&out.analog, &analog, sizeof out.analog);
+    return out;
+}
+
+static void image_ticks(struct run *run, uint32_t request, const int32_t *counts, size_t n)
+{
+    struct seen seen = run->seen;
+    uint8_t answer[PRESSGULLY_ANSWER];
+
+    image_tick(run, 0, request, answer);
+    for (size_t i = 0; i < n; i++) {
+        const uint32_t number = image_tick(run, counts[i], PRESSGULLY_NOTHING, answer);
+        const struct outputs out = outputs_of(answer);
+
+        look(&seen, number != ANSWER_DONE, &out);
+    }
+    run->seen = seen;
+    run->ticks += 1 + n;
+}
+
+/* Those numbers of the image that the digest is of. */
+static void end_images(struct run *run)
+{
+    const uint8_t *image = run->image;
+
+    run->st = (struct state){
+        .opening = (int32_t)big_endian(image, 4), .last = (int32_t)big_endian(image + 4, 4), .refilled = big_endian(image + 8, 8),
+        .used = big_endian(image + 16, 8), .unbooked = big_endian(image + 24, 8), .day_ticks = (int32_t)big_endian(image + 32, 4),
+        .run = (int32_t)big_endian(image + 42, 2), .zero = (int32_t)big_endian(image + 44, 4),
+        .tracked = (int32_t)big_endian(image + 48, 4), .tare = (int32_t)big_endian(image + 52, 4),
+        .tracking_count = (int32_t)big_endian(image + 56, 2), .flow_clock = (int32_t)big_endian(image + 92, 2),
+        .total = (int32_t)big_endian(image + 96, 8), .batches = (int32_t)big_endian(image + 104, 4)
+    };
+}
+
 /* ---- The program --------------------------------------------------------------- */
 
 int main(void)
@@ -175,6 +266,7 @@ int main(void)
     static int32_t counts[BLOCKS * BLOCK_LIMIT];
     static struct run run;
     static const enum request_kind asked[BLOCKS] = { REQUEST_SETPOINTS, REQUEST_START, REQUEST_STOP };
+    static const uint32_t asked_image[BLOCKS] = { PRESSGULLY_SET, PRESSGULLY_START, PRESSGULLY_STOP };
     const size_t got = fread(&in, 1, sizeof in, stdin);
     const size_t given = got < sizeof in - sizeof in.counts ? 0 : (got - (sizeof in - sizeof in.counts)) / NUMBER_BYTES;
     const int32_t mode = number(in.numbers[0]), rounds = number(in.numbers[1]), first = number(in.numbers[NUMBERS - 1]);
@@ -198,6 +290,8 @@ int main(void)
     unasked_ticks(&run, REQUEST_START, &first, 1);
     asked_ticks(&run, &first, 1);
     line_ticks(&run, in.lines, &first, 1);
+    if (mode == 5)
+        begin_images(&run, &g, &first, in.lines[0]);
     for (int64_t turn = 0; turn < (int64_t)rounds * BLOCKS; turn++) {
         const size_t from = (size_t)(turn % BLOCKS) * BLOCK_LIMIT;
         const size_t left = given < from ? 0 : given - from;
@@ -207,9 +301,12 @@ int main(void)
         case 1: block_ticks(&run, asked[turn % BLOCKS], counts + from, n); break;
         case 2: unasked_ticks(&run, asked[turn % BLOCKS], counts + from, n); break;
         case 3: asked_ticks(&run, counts + from, n); break;
+        case 5: image_ticks(&run, asked_image[turn % BLOCKS], counts + from, n); break;
         default: line_ticks(&run, in.lines, counts + from, n); break;
         }
     }
+    if (mode == 5)
+        end_images(&run);
     printf("ticks=%" PRIu64 "\ndigest=%" PRIu64 "\noutputs=%" PRIu64 "\n", run.ticks, state_digest(&run.st), output_digest(&run.seen, run.reply));
     return 0;
 }
