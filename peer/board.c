@@ -118,6 +118,7 @@ enum {
     GIVEN_DIVISION = 4,
     GIVEN_ZERO_RANGE = 5,
     GIVEN_TRACKING_TIME = 6,
+    GIVEN_TRACKING_WIDTH = 7,
     GIVEN_ALLOWANCE = 8,
     GIVEN_STABILITY_TIME = 9,
     GIVEN_MODE = 11,
@@ -256,27 +257,65 @@ static bool possible_day(const struct state *st)
     return st->opening + st->refilled - st->used - st->unbooked == st->last;
 }
 
+/* A bad tick has no run, and ends every stage: by a stop, or by error 9.  Before any
+ * tick the last one was not good. */
 static bool possible_stability(const struct given *g, const struct state *st)
 {
-    return st->run <= setting(g, GIVEN_STABILITY_TIME) && (st->last_good || st->run == 0);
+    if (!st->last_good)
+        return st->run == 0 && st->stage == 0;
+    return st->any_good && st->run <= setting(g, GIVEN_STABILITY_TIME);
 }
 
 /* Zero less tracked is the raw of the last accepted zero (or 0), and tracking moves
  * the zero alone: both were in the zero range. */
 static bool possible_zero(const struct given *g, const struct state *st)
 {
-    const int64_t C = setting(g, GIVEN_CAPACITY), q = setting(g, GIVEN_TRACKING_TIME);
+    const int64_t C = setting(g, GIVEN_CAPACITY);
     const int64_t range = C * setting(g, GIVEN_ZERO_RANGE);
 
     if (10 * magnitude(st->zero) > range)
         return false;
     if (10 * magnitude((int64_t)st->zero - st->tracked) > range)
         return false;
+    return st->tare <= C * setting(g, GIVEN_DIVISION);
+}
+
+/* Tracking is off if q or w is 0: then nothing is counted, and nothing ever moved.
+ * Only a good tick in stage 00 is counted, and step 6 does not lead out of that. */
+static bool possible_tracking(const struct given *g, const struct state *st)
+{
+    const int64_t q = setting(g, GIVEN_TRACKING_TIME), w = setting(g, GIVEN_TRACKING_WIDTH);
+
+    if (q == 0 || w == 0)
+        return st->tracked == 0 && st->tracking_count == 0;
     if (magnitude(st->tracked) > setting(g, GIVEN_ALLOWANCE))
         return false;
-    if (st->tare > C * setting(g, GIVEN_DIVISION))
+    if (st->stage != 0 || !st->last_good)
+        return st->tracking_count == 0;
+    return st->tracking_count < q;
+}
+
+/* Setpoints do not change outside stage 00, so a batch is in a stage to which those in
+ * use lead.  By their rules F is not 0 where P is not, nor where OP is not in mode 1. */
+static bool possible_stage(const struct given *g, const struct state *st)
+{
+    const struct setpoints *p = &st->setpoints;
+    const bool normal = mode_of(g) == MODE_NORMAL;
+
+    switch (st->stage) {
+    case 0: case 3:
+        return true;
+    case 4: case 5:
+        return normal && p->optional != 0;
+    case 6: case 7:
+        return p->preliminary != 0;
+    case 8: case 9: case 10: case 11:
+        return p->final != 0;
+    case 14: case 15: case 16:
+        return normal;
+    default:
         return false;
-    return q == 0 ? st->tracking_count == 0 : st->tracking_count < q;
+    }
 }
 
 /* The ticks that a timed stage lasts, at least 1; 0 of a stage that is not timed. */
@@ -307,21 +346,18 @@ static bool possible_sequence(const struct given *g, const struct state *st)
 {
     const int32_t stage = st->stage, error = st->error;
     const int64_t ticks = timed_ticks(g, stage);
-    const bool batch = between(stage, 3, 11);
-    const bool discharge = stage >= 14;
-    const bool has_discharge = mode_of(g) == MODE_NORMAL;
 
-    if (stage != 0 && !batch && !(discharge && has_discharge))
-        return false;
     if (ticks == 0 ? st->timer != 0 : st->timer >= ticks)
         return false;
     if (st->flow_clock > clock_limit(g, stage))
         return false;
-    if (error == 3 || error == 5 || (between(error, 7, 8) && !has_discharge))
+    if (error == 3 || error == 5)
+        return false;
+    if (between(error, 7, 8) && mode_of(g) != MODE_NORMAL)
         return false;
     if (stage != 0 && error != 0)
         return false;
-    return !batch || st->judgement == JUDGEMENT_NONE;
+    return !between(stage, 3, 11) || st->judgement == JUDGEMENT_NONE;
 }
 
 static bool possible_totals(const struct state *st)
@@ -344,7 +380,8 @@ static void turn_timer(const struct given *g, struct state *st)
 static bool read_state(const uint8_t *image, const struct given *g, struct state *st)
 {
     return read_rows(image, st) && possible_day(st) && possible_stability(g, st)
-        && possible_zero(g, st) && setpoint_rules(mode_of(g), &st->setpoints)
+        && possible_zero(g, st) && possible_tracking(g, st)
+        && setpoint_rules(mode_of(g), &st->setpoints) && possible_stage(g, st)
         && possible_sequence(g, st) && possible_totals(st);
 }
 
