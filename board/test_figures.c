@@ -1,0 +1,362 @@
+/* The outline's figures and some worked by hand, read at their places in the answer and in the state image. Images reach what no log can:
+ * the end of a day's 8,640,000 ticks, and full totals. */
+#include "test.h"
+
+#include <stdio.h>
+#include <string.h>
+
+static struct lent on; /* the controller at work */
+
+static void open_with(const int32_t *numbers)
+{
+    uint8_t settings[PRESSGULLY_SETTINGS], state[PRESSGULLY_STATE];
+    struct call c = open_call();
+    struct outcome o;
+
+    put_settings(settings, numbers);
+    memset(state, 0x5a, sizeof state);
+    lend(&on, settings, state);
+    o = run(&on, &c);
+    check(o.kept && o.told == 0, "figures: the opening");
+}
+
+/* Settings A with one of them altered. */
+static void open_a(enum setting s, int32_t number)
+{
+    int32_t numbers[SETTINGS];
+
+    memcpy(numbers, settings_a, sizeof numbers);
+    numbers[s] = number;
+    open_with(numbers);
+}
+
+static void told(struct outcome o, uint32_t due, const char *what)
+{
+    check(o.kept && o.told == due, "figures: %s: told %u instead of %u", what, (unsigned)o.told, (unsigned)due);
+}
+
+static struct outcome tick(int32_t count, bool contact, uint32_t request)
+{
+    struct call c = tick_call(count, contact, request);
+
+    return run(&on, &c);
+}
+
+/* So many ticks at this count, asked nothing. */
+static void hold(int32_t count, int ticks)
+{
+    struct outcome o = {0, true, false};
+
+    while (ticks-- > 0 && o.kept && o.told == 0)
+        o = tick(count, false, PRESSGULLY_NOTHING);
+    told(o, 0, "a tick asked nothing");
+}
+
+static void line(int32_t count, const char *command, uint32_t due, const char *reply)
+{
+    struct call c = line_call(&on, count, false, command);
+    struct outcome o = run(&on, &c);
+    const size_t length = strlen(reply);
+
+    check(o.kept && o.told == due && on.answer[15] == length && memcmp(on.reply, reply, length) == 0,
+          "figures: line %s: told %u, %d bytes replied instead of %s", command, (unsigned)o.told, on.answer[15], reply);
+}
+
+static void shows(enum answer_field f, int64_t due, const char *what)
+{
+    check(answer_number(on.answer, f) == due, "figures: %s: %lld instead of %lld", what, (long long)answer_number(on.answer, f),
+          (long long)due);
+}
+
+static void keeps(enum state_field f, int64_t due)
+{
+    check(state_number(on.state, f) == due, "figures: %s is %lld instead of %lld", state_names[f], (long long)state_number(on.state, f),
+          (long long)due);
+}
+
+static void weights(void)
+{
+    static const int32_t figures[][3] = {{44, 4, 0}, {45, 5, 0}, {-45, -5, 0}, {100084, 10008, 0}, {100085, 10009, 1}, {-100085, -10009, 1}};
+    static const uint8_t minus_5[] = {0xff, 0xff, 0xff, 0xfb};
+    unsigned i;
+
+    open_with(settings_a);
+    for (i = 0; i < 6; i++) {
+        told(tick(figures[i][0], false, PRESSGULLY_NOTHING), 0, "a tick asked nothing");
+        shows(ANSWER_GROSS, figures[i][1], "gross");
+        shows(ANSWER_NET, figures[i][1], "net");
+        shows(ANSWER_OVERLOAD, figures[i][2], "overload");
+        shows(ANSWER_GOOD, 1, "good");
+    }
+    tick(-45, false, PRESSGULLY_NOTHING);
+    check(memcmp(on.answer + 16, minus_5, 4) == 0 && memcmp(on.answer + 20, minus_5, 4) == 0, "figures: -5 in bytes");
+    tick(2000001, false, PRESSGULLY_NOTHING);
+    shows(ANSWER_GOOD, 0, "good in a bad tick");
+    shows(ANSWER_GROSS, 0, "gross in a bad tick");
+    keeps(STATE_LAST, -45);
+    keeps(STATE_LAST_GOOD, 0);
+    open_a(SETTING_DIVISION, 5);
+    tick(45, false, PRESSGULLY_NOTHING);
+    shows(ANSWER_GROSS, 25, "gross of 45 with d 5");
+}
+
+/* "zero at 2,000; 2,001, stable"; then a tare, which net loses. */
+static void zero_and_tare(void)
+{
+    open_with(settings_a);
+    hold(2001, 101);
+    shows(ANSWER_STABLE, 1, "stable");
+    keeps(STATE_RUN, 100);
+    told(tick(2001, false, PRESSGULLY_ZERO), 5, "zero at 2,001");
+    keeps(STATE_ZERO, 0);
+    told(tick(2000, false, PRESSGULLY_ZERO), 0, "zero at 2,000");
+    keeps(STATE_ZERO, 2000);
+    shows(ANSWER_GROSS, 0, "gross after the zero");
+    hold(46210, 101);
+    line(46210, "RW", 0, "ST,GS,+0004421kg\r\n");
+    told(tick(46210, false, PRESSGULLY_TARE), 0, "tare");
+    keeps(STATE_TARE, 4421);
+    shows(ANSWER_NET, 0, "net after the tare");
+    told(tick(46210, false, PRESSGULLY_SHOW_NET), 0, "show net");
+    keeps(STATE_SHOWS_NET, 1);
+    line(2000, "RW", 0, "US,NT,-0004421kg\r\n");
+    shows(ANSWER_NET, -4421, "net below 0");
+    told(tick(2000, false, PRESSGULLY_TARE_CLEAR), 0, "tare clear");
+    keeps(STATE_TARE, 0);
+    told(tick(2000, false, PRESSGULLY_SHOW_GROSS), 0, "show gross");
+    keeps(STATE_SHOWS_NET, 0);
+}
+
+/* "one tick at 0, five falls of 5, each held 100 ticks: zero -20, gross -1, used 25" */
+static void tracking(void)
+{
+    int fall;
+
+    open_with(settings_a);
+    hold(0, 1);
+    for (fall = 1; fall <= 5; fall++)
+        hold(-5 * fall, 100);
+    keeps(STATE_ZERO, -20);
+    keeps(STATE_TRACKED, -20);
+    keeps(STATE_USED, 25);
+    keeps(STATE_LAST, -25);
+    shows(ANSWER_GROSS, -1, "gross after five falls");
+    hold(-22, 7);
+    keeps(STATE_COUNTER, 8); /* at -20 at most: the tick at -25 that is not a move's counts as well */
+}
+
+/* The outline's ticket, with the last splash of request A2. */
+static void days(void)
+{
+    open_with(settings_a);
+    tick(0, false, PRESSGULLY_NOTHING);
+    tick(-30, false, PRESSGULLY_NOTHING);
+    tick(100, true, PRESSGULLY_NOTHING);
+    keeps(STATE_CONTACT, 1);
+    told(tick(60, false, PRESSGULLY_DAY_CLOSE), 0, "day close");
+    shows(ANSWER_DAY_CLOSED, 1, "a day closed");
+    shows(ANSWER_OPENING, 0, "opening");
+    shows(ANSWER_REFILLED, 90, "refilled");
+    shows(ANSWER_USED, 30, "used");
+    shows(ANSWER_UNBOOKED, 0, "unbooked");
+    shows(ANSWER_CLOSING, 60, "closing");
+    keeps(STATE_OPENING, 60);
+    keeps(STATE_REFILLED, 0);
+    keeps(STATE_USED, 0);
+    keeps(STATE_TICKS, 0);
+    tick(-40, false, PRESSGULLY_NOTHING);
+    shows(ANSWER_DAY_CLOSED, 0, "no day closed");
+    keeps(STATE_USED, 100);
+    put_state(on.state, STATE_TICKS, 8639999); /* the last tick that is booked, and the first that is not */
+    tick(-50, false, PRESSGULLY_NOTHING);
+    keeps(STATE_TICKS, 8640000);
+    keeps(STATE_USED, 110);
+    keeps(STATE_UNBOOKED, 0);
+    tick(1000, true, PRESSGULLY_NOTHING);
+    keeps(STATE_TICKS, 8640000);
+    keeps(STATE_REFILLED, 0);
+    keeps(STATE_UNBOOKED, -1050);
+    told(tick(-2000, false, PRESSGULLY_DAY_CLOSE), 0, "day close");
+    shows(ANSWER_OPENING, 60, "opening");
+    shows(ANSWER_USED, 110, "used");
+    shows(ANSWER_UNBOOKED, 1950, "unbooked");
+    shows(ANSWER_CLOSING, -2000, "closing");
+}
+
+static void write_points(uint32_t F, uint32_t FF, uint32_t P, uint32_t OP, uint32_t near_zero, uint32_t due)
+{
+    on.points[0] = F;
+    on.points[1] = FF;
+    on.points[2] = P;
+    on.points[3] = OP;
+    on.points[4] = 5;
+    on.points[5] = 6;
+    on.points[6] = near_zero;
+    told(tick(0, false, PRESSGULLY_SET), due, "setpoints");
+}
+
+static void at_stage(int32_t count, int stage, const char *gates)
+{
+    char seen[5] = "----";
+    int i;
+
+    tick(count, false, PRESSGULLY_NOTHING);
+    for (i = 0; i < 4; i++)
+        if (on.answer[5 + i] == 1)
+            seen[i] = "LMSD"[i];
+    check(on.answer[4] == stage && on.state[88] == stage && strcmp(seen, gates) == 0, "figures: stage %d with %s instead of %d with %s",
+          on.answer[4], seen, stage, gates);
+}
+
+/* A batch through all its stages, delays 0: each timed stage lasts a tick. */
+static void batch(void)
+{
+    open_with(settings_a);
+    write_points(1000, 20, 20, 0, 0, 6);
+    write_points(1000, 20, 0, 300, 0, 0);
+    write_points(1000, 20, 100, 300, 50, 0);
+    line(0, "RS", 0, "001000000020000100000300000005000006000050\r\n");
+    keeps(STATE_OPTIONAL, 300);
+    keeps(STATE_NEAR_ZERO, 50);
+    told(tick(0, false, PRESSGULLY_START), 0, "start");
+    shows(ANSWER_STAGE, 3, "stage of a start");
+    at_stage(0, 4, "LMS-");
+    at_stage(0, 5, "LMS-");
+    at_stage(6994, 5, "LMS-"); /* shows 699 */
+    keeps(STATE_CLOCK, 2);
+    at_stage(7000, 6, "-MS-");
+    at_stage(7000, 7, "-MS-");
+    at_stage(9000, 8, "--S-");
+    at_stage(9000, 9, "--S-");
+    at_stage(9800, 10, "----");
+    at_stage(10040, 11, "----");
+    hold(10040, 99);
+    keeps(STATE_STAGE, 11);
+    keeps(STATE_CLOCK, 107);
+    at_stage(10040, 0, "----");
+    shows(ANSWER_JUDGEMENT, 1, "judgement");
+    keeps(STATE_TOTAL, 1004);
+    keeps(STATE_BATCHES, 1);
+    keeps(STATE_UNDO, 1);
+    keeps(STATE_UNDO_WEIGHT, 1004);
+    line(10040, "RT", 0, "00001004,00000001\r\n");
+    told(tick(0, false, PRESSGULLY_UNDO), 0, "undo");
+    keeps(STATE_TOTAL, 0);
+    keeps(STATE_UNDO_WEIGHT, 0);
+    told(tick(0, false, PRESSGULLY_UNDO), 7, "undo twice");
+    told(tick(0, false, PRESSGULLY_START), 0, "start");
+    told(tick(0, false, PRESSGULLY_STOP), 0, "stop");
+    shows(ANSWER_ERROR, 4, "error of a stop");
+    keeps(STATE_ERROR, 4);
+}
+
+/* Stable in stage 11, about to finish at 1,000: totals that are full give error 10, those one short of it do not. */
+static void full_totals(int64_t total, int64_t batches, bool booked)
+{
+    open_with(settings_a);
+    write_points(1000, 20, 100, 300, 50, 0);
+    hold(10000, 1);
+    put_state(on.state, STATE_RUN, 100);
+    put_state(on.state, STATE_STAGE, 11);
+    put_state(on.state, STATE_TOTAL, total);
+    put_state(on.state, STATE_BATCHES, batches);
+    at_stage(10000, 0, "----");
+    keeps(STATE_ERROR, booked ? 0 : 10);
+    keeps(STATE_TOTAL, booked ? total + 1000 : total);
+    keeps(STATE_BATCHES, booked ? batches + 1 : batches);
+    keeps(STATE_UNDO, booked);
+    keeps(STATE_JUDGEMENT, 1);
+}
+
+static void discharge(void)
+{
+    open_a(SETTING_DISCHARGE_LIMIT, 3);
+    write_points(0, 0, 0, 0, 50, 0);
+    told(tick(5000, false, PRESSGULLY_DISCHARGE), 0, "discharge");
+    at_stage(5000, 15, "---D");
+    at_stage(400, 16, "---D");
+    keeps(STATE_CLOCK, 1);
+    at_stage(400, 0, "----");
+    keeps(STATE_ERROR, 0);
+    line(5000, "BD", 0, "BD\r\n");
+    shows(ANSWER_STAGE, 14, "stage of a discharge");
+    hold(5000, 4);
+    keeps(STATE_CLOCK, 3);
+    at_stage(5000, 0, "----");
+    keeps(STATE_ERROR, 8);
+    told(tick(5000, false, PRESSGULLY_DISCHARGE), 0, "discharge");
+    told(tick(5000, false, PRESSGULLY_STOP), 0, "stop");
+    keeps(STATE_ERROR, 7);
+    open_a(SETTING_MODE, 2);
+    told(tick(5000, false, PRESSGULLY_DISCHARGE), 9, "discharge in mode 2");
+    write_points(1000, 0, 0, 400, 50, 0);
+    tick(4004, false, PRESSGULLY_NOTHING);
+    shows(ANSWER_FULL, 0, "full at 400");
+    tick(4005, false, PRESSGULLY_NOTHING);
+    shows(ANSWER_FULL, 1, "full at 401");
+    shows(ANSWER_NEAR_ZERO, 0, "near zero at 401");
+    tick(504, false, PRESSGULLY_NOTHING);
+    shows(ANSWER_NEAR_ZERO, 1, "near zero at 50");
+}
+
+/* A board's value at a count, in the bits of its double. */
+static void analog_at(int32_t count, int kind, uint64_t bits)
+{
+    tick(count, false, PRESSGULLY_NOTHING);
+    check(on.answer[13] == kind && bits_at(on.answer, answer_fields[ANSWER_ANALOG]) == bits, "figures: analog at %ld: kind %d, bits %016llx",
+          (long)count, on.answer[13], (unsigned long long)bits_at(on.answer, answer_fields[ANSWER_ANALOG]));
+}
+
+static void analog(void)
+{
+    int32_t numbers[SETTINGS];
+
+    open_a(SETTING_BOARD, 1);
+    analog_at(0, 1, 0x4010000000000000u);      /* 4 mA */
+    analog_at(-500, 1, 0x4010000000000000u);
+    analog_at(50000, 1, 0x4028000000000000u);  /* 12 mA */
+    analog_at(100000, 1, 0x4034000000000000u); /* 20 mA */
+    analog_at(100085, 0, 0);                   /* overload */
+    analog_at(2000001, 0, 0);
+    memcpy(numbers, settings_a, sizeof numbers);
+    numbers[SETTING_BOARD] = 2;
+    numbers[SETTING_LOW_END] = 100;
+    numbers[SETTING_HIGH_END] = 0;
+    open_with(numbers);
+    analog_at(1000, 2, 0);                     /* +0.0 V */
+    analog_at(500, 2, 0x4014000000000000u);    /* 5 V */
+    analog_at(0, 2, 0x4024000000000000u);      /* 10 V */
+}
+
+static void addressed_lines(void)
+{
+    open_a(SETTING_ADDRESS, 7);
+    line(0, "@07RW", 0, "@07US,GS,+0000000kg\r\n");
+    line(0, "RW", 12, "");
+    line(0, "@08RW", 12, "");
+    line(0, "@07", 11, "@07NG11\r\n");
+    line(0, "@07BD", 0, "@07BD\r\n");
+    line(0, "@07BB", 3, "@07NG03\r\n");
+    line(100085, "@07RW", 0, "@07OL,GS,+       kg\r\n");
+    line(-100085, "@07RW", 0, "@07OL,GS,-       kg\r\n");
+    shows(ANSWER_OVERLOAD, 1, "overload");
+    line(0, "@07SS001000000020000100000300000005000006000050", 0, "@07SS\r\n");
+    keeps(STATE_PRELIMINARY, 100);
+    keeps(STATE_UNDER, 6);
+    line(0, "@07SS00100000002000010000030000000500000600005x", 11, "@07NG11\r\n");
+}
+
+void test_figures(void)
+{
+    weights();
+    zero_and_tare();
+    tracking();
+    days();
+    batch();
+    full_totals(99998999, 99999998, true);
+    full_totals(99999000, 5, false);
+    full_totals(5, 99999999, false);
+    discharge();
+    analog();
+    addressed_lines();
+}

@@ -1,0 +1,273 @@
+/* Runs from an opening: a plant whose weight answers the gates, asked by numbers and by lines. A tick with a request and the line that asks
+ * the same are one, a block is its ticks, and every image on the way is read by the next call. Some of them are kept, and each of their
+ * bytes altered. */
+#include "test.h"
+
+#include <stdio.h>
+#include <string.h>
+
+enum { STAGES = 17, ERRORS = 11 };
+
+struct image {
+    uint8_t settings[PRESSGULLY_SETTINGS], state[PRESSGULLY_STATE];
+};
+
+/* One for each stage, each error, and each other thing worth altering, as the runs come by. */
+static struct image kept[STAGES + ERRORS + 4];
+static bool is_kept[STAGES + ERRORS + 4];
+
+static void keep(int place, const struct lent *l)
+{
+    if (is_kept[place])
+        return;
+    is_kept[place] = true;
+    memcpy(kept[place].settings, l->settings, PRESSGULLY_SETTINGS);
+    memcpy(kept[place].state, l->state, PRESSGULLY_STATE);
+}
+
+static void keep_worth(const struct lent *l)
+{
+    const uint8_t *state = l->state;
+
+    keep(state[88], l);
+    keep(STAGES + state[94], l);
+    if (state[37] == 1 && state_number(state, STATE_REFILLED) != 0)
+        keep(STAGES + ERRORS, l);
+    if (state[108] == 1)
+        keep(STAGES + ERRORS + 1, l);
+    if (state_number(state, STATE_TRACKED) != 0)
+        keep(STAGES + ERRORS + 2, l);
+    if (state_number(state, STATE_TARE) != 0)
+        keep(STAGES + ERRORS + 3, l);
+}
+
+/* The two letters that ask the same, by number; 0 is asked by a read as well. */
+static const char *const letters[] = {"RW", "MZ", "MT", "CT", "BB", "HB", "SS", "DT", "CA", "MG", "MN", "DC", "BD"};
+
+static struct call as_line(struct lent *l, const struct call *c)
+{
+    const int address = (int)setting(l->settings, SETTING_ADDRESS);
+    char line[80];
+    int at = 0, i;
+
+    if (address != 0)
+        at = sprintf(line, "@%02d", address);
+    at += sprintf(line + at, "%s", letters[c->request]);
+    if (c->request == PRESSGULLY_SET)
+        for (i = 0; i < PRESSGULLY_POINTS; i++)
+            at += sprintf(line + at, "%06lu", (unsigned long)l->points[i]);
+    return line_call(l, c->count, c->contact, line);
+}
+
+/* The tick by number and by line, and, asked nothing, as a block of one: the same image, the same outputs. l goes on with the first. */
+static bool is_one(struct lent *l, const struct call *c)
+{
+    struct lent by_line = *l, by_block = *l;
+    const struct call line = as_line(&by_line, c), block = block_call(&c->count, 1, c->contact);
+    const struct outcome o = run(l, c), lo = run(&by_line, &line);
+    bool one = o.kept && lo.kept && !o.refused && o.told == lo.told && memcmp(l->state, by_line.state, PRESSGULLY_STATE) == 0;
+
+    by_line.answer[15] = 0; /* the reply's length is the line's alone */
+    one = one && memcmp(l->answer, by_line.answer, PRESSGULLY_ANSWER) == 0;
+    if (c->request == PRESSGULLY_NOTHING) {
+        const struct outcome bo = run(&by_block, &block);
+
+        one = one && bo.kept && bo.told == 0 && memcmp(l->state, by_block.state, PRESSGULLY_STATE) == 0;
+    }
+    return one;
+}
+
+/* ---- The plant ---- */
+
+struct plant {
+    int64_t count; /* what the cell tells */
+    int64_t step;  /* a large flow of one tick */
+};
+
+static int32_t flow(struct plant *p, const struct lent *l)
+{
+    const int sign = setting(l->settings, SETTING_MODE) == 1 ? 1 : -1;
+    const uint8_t *answer = l->answer;
+
+    if (answer[5] == 1)
+        p->count += sign * p->step;
+    else if (answer[6] == 1)
+        p->count += sign * p->step / 4;
+    else if (answer[7] == 1)
+        p->count += sign * p->step / 16;
+    if (answer[8] == 1 && p->count > setting(l->settings, SETTING_ZERO_COUNT))
+        p->count -= p->step;
+    if (one_in(400))
+        p->count = draw_from(setting(l->settings, SETTING_ZERO_COUNT), setting(l->settings, SETTING_SPAN_COUNT));
+    if (one_in(3000))
+        return 2000001 + (int32_t)(draw() % 1000);
+    if (one_in(3000))
+        return (int32_t)draw_from(-2000000, 2000000);
+    return (int32_t)p->count;
+}
+
+static uint32_t request_of(const struct lent *l)
+{
+    static const uint8_t idle[] = {PRESSGULLY_START, PRESSGULLY_START, PRESSGULLY_DISCHARGE, PRESSGULLY_SET, PRESSGULLY_ZERO, PRESSGULLY_TARE,
+                                   PRESSGULLY_TARE_CLEAR, PRESSGULLY_UNDO, PRESSGULLY_DAY_CLOSE, PRESSGULLY_SHOW_NET, PRESSGULLY_SHOW_GROSS};
+
+    if (l->state[88] == 0 && one_in(20))
+        return idle[draw() % sizeof idle];
+    return one_in(200) ? (uint32_t)(draw() % 13) : PRESSGULLY_NOTHING;
+}
+
+static void draw_setpoints(struct lent *l)
+{
+    const int64_t most = setting(l->settings, SETTING_SPAN_WEIGHT) * setting(l->settings, SETTING_DIVISION);
+    int i;
+
+    for (i = 0; i <= PRESSGULLY_POINTS; i++)
+        l->points[i] = (uint32_t)(most / 50);
+    l->points[0] = (uint32_t)(most * draw_from(10, 90) / 100);
+    l->points[2] = one_in(3) ? 0 : (uint32_t)(most / 25 + 1);
+    l->points[3] = one_in(3) ? 0 : (uint32_t)(most / 10 + 2);
+}
+
+/* Settings that a plant can live with: calm soon, delays short, mostly. */
+static void plant_settings(uint8_t *settings)
+{
+    int i;
+
+    draw_settings(settings);
+    put_setting(settings, SETTING_STABILITY_TIME, 10);
+    for (i = SETTING_START_DELAY; i <= SETTING_JUDGE_DELAY; i++)
+        put_setting(settings, (enum setting)i, draw_from(0, 12));
+    put_setting(settings, SETTING_DISCHARGE_START, draw_from(0, 12));
+    put_setting(settings, SETTING_DISCHARGE_END, draw_from(0, 12));
+    put_setting(settings, SETTING_FLOW_LIMIT, draw_from(20, 4000));
+    put_setting(settings, SETTING_DISCHARGE_LIMIT, draw_from(5, 400));
+    put_setting(settings, SETTING_TRACKING_TIME, draw_from(0, 6));
+}
+
+static void plant_run(int number, int ticks)
+{
+    static const uint8_t any[PRESSGULLY_STATE] = {1, 2, 3};
+    uint8_t settings[PRESSGULLY_SETTINGS];
+    struct lent l;
+    struct plant p;
+    struct call c = open_call();
+    const char *fault = NULL;
+    bool held;
+    int i;
+
+    sow((uint64_t)number + 77000);
+    plant_settings(settings);
+    lend(&l, settings, any);
+    draw_setpoints(&l);
+    held = run(&l, &c).told == 0;
+    memset(l.answer, 0, sizeof l.answer);
+    p.count = setting(settings, SETTING_ZERO_COUNT);
+    p.step = (setting(settings, SETTING_SPAN_COUNT) - p.count) / 60;
+    for (i = 0; i < ticks && held && fault == NULL; i++) {
+        const int32_t count = flow(&p, &l);
+        const uint32_t request = request_of(&l);
+
+        if (request == PRESSGULLY_SET)
+            draw_setpoints(&l);
+        c = tick_call(count, one_in(2), request);
+        held = is_one(&l, &c);
+        fault = untrue(l.settings, l.state, l.answer);
+        keep_worth(&l);
+    }
+    check(held && fault == NULL, "runs: run %d differs at tick %d: %s", number, i, fault == NULL ? "by number and by line" : fault);
+}
+
+/* A block is its ticks, one after another. */
+static void block_run(int number)
+{
+    static int32_t counts[PRESSGULLY_BLOCK];
+    uint8_t settings[PRESSGULLY_SETTINGS], state[PRESSGULLY_STATE];
+    const bool contact = number % 2 == 0;
+    const size_t n = number == 0 ? PRESSGULLY_BLOCK : (size_t)(draw() % 200);
+    struct lent together, single;
+    struct call block = block_call(counts, n, contact);
+    struct outcome o;
+    bool held;
+    size_t i;
+
+    sow((uint64_t)number + 88000);
+    draw_settings(settings);
+    draw_state(settings, state);
+    counts[0] = (int32_t)setting(settings, SETTING_ZERO_COUNT);
+    for (i = 1; i < PRESSGULLY_BLOCK; i++)
+        counts[i] = one_in(8) ? (int32_t)draw_from(-2000001, 2000001) : counts[i - 1] + (int32_t)(draw() % 5) - 2;
+    lend(&together, settings, state);
+    single = together;
+    o = run(&together, &block);
+    held = o.kept && o.told == 0;
+    for (i = 0; i < n; i++) {
+        const struct call c = tick_call(counts[i], contact, PRESSGULLY_NOTHING);
+
+        o = run(&single, &c);
+        held = held && o.kept && o.told == 0;
+    }
+    check(held && memcmp(together.state, single.state, PRESSGULLY_STATE) == 0, "runs: block %d of %u counts is not its ticks", number, (unsigned)n);
+}
+
+/* ---- Every byte altered ---- */
+
+/* A byte of a kept image with several other values: told what the table says; a refused one changes nothing, a possible one goes on. */
+static void alter_byte(const struct image *m, int image, unsigned place, unsigned long *taken, unsigned long *all)
+{
+    static const uint8_t others[] = {0x01, 0x02, 0x03, 0x80, 0xff, 0x7f, 0x10};
+    const uint8_t was = m->state[place];
+    const char *fault = NULL;
+    bool held = true;
+    unsigned i, t;
+
+    for (i = 0; i < sizeof others + 2; i++) {
+        struct lent l;
+        struct call c;
+        struct outcome o;
+        uint32_t due;
+
+        lend(&l, m->settings, m->state);
+        l.state[place] = i < sizeof others ? was ^ others[i] : i == sizeof others ? (uint8_t)(was + 1) : (uint8_t)(was - 1);
+        due = told_of(l.settings, l.state);
+        ++*all;
+        *taken += due == 0;
+        for (t = 0; t < 4 && held && fault == NULL; t++) {
+            c = tick_call((int32_t)(100 * t), t % 2 == 0, PRESSGULLY_NOTHING);
+            o = run(&l, &c);
+            held = o.kept && o.told == due;
+            if (due == 0)
+                fault = untrue(l.settings, l.state, l.answer);
+        }
+    }
+    check(held && fault == NULL, "runs: image %d, byte %u altered: %s", image, place, fault == NULL ? "not told what the table says" : fault);
+}
+
+static void altered_bytes(void)
+{
+    static const uint8_t stages[] = {0, 3, 4, 5, 6, 7, 8, 9, 10, 11, 14, 15, 16}, errors[] = {0, 1, 2, 4, 6, 7, 8, 9};
+    static const int altered[] = {5, 11, 15, STAGES + 6, STAGES + 8, STAGES + ERRORS, STAGES + ERRORS + 1, STAGES + ERRORS + 2};
+    unsigned long taken = 0, all = 0;
+    unsigned i, place;
+
+    for (i = 0; i < sizeof stages; i++)
+        check(is_kept[stages[i]], "runs: no run came through stage %d", stages[i]);
+    for (i = 0; i < sizeof errors; i++)
+        check(is_kept[STAGES + errors[i]], "runs: no run came to error %d", errors[i]);
+    for (i = STAGES + ERRORS; i < STAGES + ERRORS + 4; i++)
+        check(is_kept[i], "runs: no run had a refill, an undo, a tracked zero or a tare (%u)", i);
+    for (i = 0; i < sizeof altered / sizeof altered[0]; i++)
+        for (place = 0; place < PRESSGULLY_STATE; place++)
+            alter_byte(&kept[altered[i]], altered[i], place, &taken, &all);
+    printf("test: %lu altered bytes of images on the way, of which %lu are possible\n", all, taken);
+}
+
+void test_runs(void)
+{
+    int i;
+
+    for (i = 0; i < 120; i++)
+        plant_run(i, 3000);
+    for (i = 0; i < 200; i++)
+        block_run(i);
+    altered_bytes();
+}

@@ -1,0 +1,257 @@
+/* docs/IMAGES.md once more, as tests of an image: each row of its tables a line or two. The calls are held to these; the rows' ends are
+ * tried besides with plain numbers in test_fields.c. */
+#include "test.h"
+
+#include <string.h>
+
+const char *const state_names[STATE_FIELDS] = {
+    "opening", "last", "refilled", "used", "unbooked", "ticks", "begun", "contact", "last tick good", "run", "zero", "tracked", "tare",
+    "tracking counter", "displayed weight", "F", "FF", "P", "OP", "over", "under", "near zero", "stage", "ticks lasted", "clock", "error",
+    "judgement", "total", "batches", "undo", "undo's weight",
+};
+
+static const int64_t RAW_LIMIT = 4000000, CHANGE_LIMIT = 8000000, DAY = 8640000, TOTAL_LIMIT = 99999999;
+
+static bool within(int64_t number, int64_t least, int64_t most)
+{
+    return least <= number && number <= most;
+}
+
+static int64_t without_sign(int64_t number)
+{
+    return number < 0 ? -number : number;
+}
+
+/* A setting whose range has no sign. */
+static int64_t given(const uint8_t *settings, enum setting s)
+{
+    return without_sign(setting(settings, s));
+}
+
+static int mode_of(const uint8_t *settings)
+{
+    return setting(settings, SETTING_MODE) == 1 ? 1 : 2;
+}
+
+bool is_unused(unsigned place)
+{
+    int f;
+
+    for (f = 0; f < STATE_FIELDS; f++)
+        if (within(place, state_fields[f].place, state_fields[f].place + state_fields[f].width - 1))
+            return false;
+    return true;
+}
+
+static bool unused_are_0(const uint8_t *state)
+{
+    static const uint8_t places[] = {38, 39, 41, 59, 89, 109, 110, 111};
+    unsigned i;
+
+    for (i = 0; i < sizeof places; i++)
+        if (state[places[i]] != 0)
+            return false;
+    for (i = 120; i < PRESSGULLY_STATE; i++)
+        if (state[i] != 0)
+            return false;
+    return true;
+}
+
+static bool day_fits(const uint8_t *state)
+{
+    const int64_t opening = state_number(state, STATE_OPENING), last = state_number(state, STATE_LAST);
+    const int64_t refilled = state_number(state, STATE_REFILLED), used = state_number(state, STATE_USED);
+    const int64_t unbooked = state_number(state, STATE_UNBOOKED), ticks = state_number(state, STATE_TICKS);
+    const int64_t booked = CHANGE_LIMIT * ticks;
+    static const uint8_t none[32];
+
+    if (!within(opening, -RAW_LIMIT, RAW_LIMIT) || !within(last, -RAW_LIMIT, RAW_LIMIT) || !within(ticks, 0, DAY))
+        return false;
+    if (state[36] > 1 || state[37] > 1 || (state[36] == 0 && (memcmp(state, none, sizeof none) != 0 || state[37] != 0)))
+        return false;
+    if (!within(refilled, -booked, booked) || !within(used, -booked, booked) || without_sign(refilled) + without_sign(used) > booked)
+        return false;
+    /* unbooked lies between the bounds of its sum and of last, so the sums below hold no surprise */
+    if (!within(unbooked, -2 * RAW_LIMIT, 2 * RAW_LIMIT) || !within(unbooked + last, -RAW_LIMIT, RAW_LIMIT))
+        return false;
+    if (ticks < DAY && unbooked != 0)
+        return false;
+    return opening + refilled - used - unbooked == last;
+}
+
+static bool weighing_fits(const uint8_t *settings, const uint8_t *state)
+{
+    const int64_t zero = state_number(state, STATE_ZERO), tracked = state_number(state, STATE_TRACKED);
+    const int64_t range = given(settings, SETTING_CAPACITY) * given(settings, SETTING_ZERO_RANGE);
+    const int64_t q = given(settings, SETTING_TRACKING_TIME);
+    const int64_t run_limit = state_number(state, STATE_LAST_GOOD) == 1 ? given(settings, SETTING_STABILITY_TIME) : 0;
+
+    return state_number(state, STATE_LAST_GOOD) <= 1 && state_number(state, STATE_RUN) <= run_limit
+        && 10 * without_sign(zero) <= range && 10 * without_sign(zero - tracked) <= range
+        && without_sign(tracked) <= given(settings, SETTING_ALLOWANCE)
+        && within(state_number(state, STATE_TARE), 0, given(settings, SETTING_CAPACITY) * given(settings, SETTING_DIVISION))
+        && state_number(state, STATE_COUNTER) <= (q == 0 ? 0 : q - 1) && state_number(state, STATE_SHOWS_NET) <= 1;
+}
+
+/* The outline's rules, those of refusal 6. */
+bool setpoints_fit(int mode, const int64_t *points)
+{
+    const int64_t F = points[0], FF = points[1], P = points[2], OP = points[3];
+    int i;
+
+    for (i = 0; i < PRESSGULLY_POINTS; i++)
+        if (!within(points[i], 0, 999999))
+            return false;
+    return FF <= F && (P == 0 || (P > FF && P <= F)) && (mode == 2 || OP == 0 || (OP > FF && OP > P && OP <= F));
+}
+
+static bool points_fit(const uint8_t *settings, const uint8_t *state)
+{
+    int64_t points[PRESSGULLY_POINTS];
+    int i;
+
+    for (i = 0; i < PRESSGULLY_POINTS; i++)
+        points[i] = state_number(state, (enum state_field)(STATE_FINAL + i));
+    return setpoints_fit(mode_of(settings), points);
+}
+
+/* The setting of a timed stage; 0 for the others. */
+static int64_t delay_of(const uint8_t *settings, int64_t stage)
+{
+    switch (stage) {
+    case 3: return given(settings, SETTING_START_DELAY);
+    case 4: return given(settings, SETTING_LARGE_DISABLE);
+    case 6: return given(settings, SETTING_MEDIUM_DISABLE);
+    case 8: return given(settings, SETTING_SMALL_DISABLE);
+    case 10: return given(settings, SETTING_JUDGE_DELAY);
+    case 14: return given(settings, SETTING_DISCHARGE_START);
+    case 16: return given(settings, SETTING_DISCHARGE_END);
+    default: return 0;
+    }
+}
+
+static int64_t clock_limit(const uint8_t *settings, int64_t stage)
+{
+    if (within(stage, 4, 11))
+        return given(settings, SETTING_FLOW_LIMIT);
+    return stage == 15 || stage == 16 ? given(settings, SETTING_DISCHARGE_LIMIT) : 0;
+}
+
+static bool sequence_fits(const uint8_t *settings, const uint8_t *state)
+{
+    const int64_t stage = state_number(state, STATE_STAGE), error = state_number(state, STATE_ERROR);
+    const int64_t delay = delay_of(settings, stage);
+    const bool normal = mode_of(settings) == 1;
+
+    if (!(stage == 0 || within(stage, 3, 11) || (normal && within(stage, 14, 16))))
+        return false;
+    if (state_number(state, STATE_LASTED) > (delay == 0 ? 0 : delay - 1) || state_number(state, STATE_CLOCK) > clock_limit(settings, stage))
+        return false;
+    if (error == 3 || error == 5 || error > 10 || (error != 0 && stage != 0) || ((error == 7 || error == 8) && !normal))
+        return false;
+    return state_number(state, STATE_JUDGEMENT) <= (within(stage, 3, 11) ? 0 : 3);
+}
+
+static bool totals_fit(const uint8_t *state)
+{
+    const int64_t total = state_number(state, STATE_TOTAL), batches = state_number(state, STATE_BATCHES);
+    const int64_t undo = state_number(state, STATE_UNDO), weight = state_number(state, STATE_UNDO_WEIGHT);
+
+    return within(total, 0, TOTAL_LIMIT) && within(batches, 0, TOTAL_LIMIT) && undo <= 1 && batches >= undo
+        && within(weight, 0, undo == 1 ? total : 0);
+}
+
+bool is_possible(const uint8_t *settings, const uint8_t *state)
+{
+    return unused_are_0(state) && day_fits(state) && weighing_fits(settings, state) && points_fit(settings, state)
+        && sequence_fits(settings, state) && totals_fit(state);
+}
+
+/* The outline's table, in its order. */
+bool settings_fit(const uint8_t *settings)
+{
+    static const struct {
+        enum setting s;
+        int32_t least, most;
+    } rows[] = {
+        {SETTING_ZERO_COUNT, -2000000, 2000000}, {SETTING_SPAN_COUNT, -2000000, 2000000}, {SETTING_CAPACITY, 1, 16000},
+        {SETTING_SPAN_WEIGHT, 1, 16000}, {SETTING_ZERO_RANGE, 1, 30}, {SETTING_TRACKING_TIME, 0, 500}, {SETTING_TRACKING_WIDTH, 0, 45},
+        {SETTING_ALLOWANCE, 0, 10000}, {SETTING_STABILITY_TIME, 10, 500}, {SETTING_STABILITY_WIDTH, 0, 9}, {SETTING_MODE, 1, 2},
+        {SETTING_START_DELAY, 0, 9999}, {SETTING_LARGE_DISABLE, 0, 9999}, {SETTING_MEDIUM_DISABLE, 0, 9999},
+        {SETTING_SMALL_DISABLE, 0, 9999}, {SETTING_JUDGE_DELAY, 0, 9999}, {SETTING_FLOW_LIMIT, 1, 60000}, {SETTING_ADDRESS, 0, 99},
+        {SETTING_BOARD, 0, 2}, {SETTING_LOW_END, -999999, 999999}, {SETTING_HIGH_END, -999999, 999999},
+        {SETTING_DISCHARGE_START, 0, 9999}, {SETTING_DISCHARGE_END, 0, 9999}, {SETTING_DISCHARGE_LIMIT, 1, 60000},
+    };
+    const int64_t d = setting(settings, SETTING_DIVISION), W = setting(settings, SETTING_SPAN_WEIGHT);
+    unsigned i;
+
+    for (i = 0; i < sizeof rows / sizeof rows[0]; i++)
+        if (!within(setting(settings, rows[i].s), rows[i].least, rows[i].most))
+            return false;
+    return (d == 1 || d == 2 || d == 5 || d == 10 || d == 20 || d == 50) && W <= setting(settings, SETTING_CAPACITY)
+        && setting(settings, SETTING_SPAN_COUNT) - setting(settings, SETTING_ZERO_COUNT) >= 10 * W
+        && setting(settings, SETTING_LOW_END) != setting(settings, SETTING_HIGH_END);
+}
+
+uint32_t told_of(const uint8_t *settings, const uint8_t *state)
+{
+    unsigned i;
+
+    for (i = 4 * SETTINGS; i < PRESSGULLY_SETTINGS; i++)
+        if (settings[i] != 0)
+            return 21;
+    if (!is_possible(settings, state))
+        return 21;
+    return settings_fit(settings) ? 0 : 10;
+}
+
+/* "Open gates: 04-05 all three, 06-07 medium and small, 08-09 small; with P = 0 the medium gate never opens"; discharge in 15 and 16. */
+static bool gates_fit(const uint8_t *state, const uint8_t *answer)
+{
+    const int64_t stage = state_number(state, STATE_STAGE);
+
+    return answer_number(answer, ANSWER_LARGE) == within(stage, 4, 5)
+        && answer_number(answer, ANSWER_MEDIUM) == (within(stage, 4, 7) && state_number(state, STATE_PRELIMINARY) != 0)
+        && answer_number(answer, ANSWER_SMALL) == within(stage, 4, 9) && answer_number(answer, ANSWER_DISCHARGE) == within(stage, 15, 16);
+}
+
+const char *untrue(const uint8_t *settings, const uint8_t *state, const uint8_t *answer)
+{
+    const bool feed = answer[5] != 0 || answer[6] != 0 || answer[7] != 0, discharge = answer[8] != 0;
+    const bool fit = answer[1] == 1 && answer[2] == 0;
+    unsigned i;
+
+    if (!unused_are_0(state))
+        return "an unused byte is not 0";
+    if (!day_fits(state))
+        return "the day does not balance, or is out of its range";
+    if (without_sign(state_number(state, STATE_TRACKED)) > setting(settings, SETTING_ALLOWANCE))
+        return "tracked passes the allowance";
+    if (!is_possible(settings, state))
+        return "a field is out of its range";
+    if (answer[10] != 0 && (feed || discharge))
+        return "a gate is open on an error";
+    if (feed && discharge)
+        return "feed and discharge are open together";
+    if (answer[4] != state[88] || answer[9] != state[95] || answer[10] != state[94])
+        return "stage, judgement or error of the answer is not the state's";
+    if (!gates_fit(state, answer))
+        return "the gates are not the stage's";
+    if (answer[1] > 1 || answer[2] > 1 || answer[3] > 1 || answer[11] > 1 || answer[12] > 1 || answer[14] > 1)
+        return "a yes or no of the answer is neither";
+    if (answer[13] != (fit ? setting(settings, SETTING_BOARD) : 0) || (answer[13] == 0 && answer_number(answer, ANSWER_ANALOG) != 0))
+        return "the analog value is not of the board's kind";
+    if (!fit && (answer[11] != 0 || answer[12] != 0))
+        return "near zero or full in a bad or overloaded tick";
+    if (answer[1] == 0 && (answer_number(answer, ANSWER_GROSS) != 0 || answer_number(answer, ANSWER_NET) != 0 || answer[2] != 0))
+        return "a weight in a bad tick";
+    if (answer[14] == 0)
+        for (i = 24; i < 56; i++)
+            if (answer[i] != 0)
+                return "figures of a closed day where none was closed";
+    if (answer[14] == 1
+        && answer_number(answer, ANSWER_OPENING) + answer_number(answer, ANSWER_REFILLED) - answer_number(answer, ANSWER_USED)
+                   - answer_number(answer, ANSWER_UNBOOKED) != answer_number(answer, ANSWER_CLOSING))
+        return "the closed day does not balance";
+    return NULL;
+}
