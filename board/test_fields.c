@@ -14,6 +14,7 @@ static const int64_t DAY = 8640000;
 /* The image as each call reads it: possible, or refused with 21 and nothing changed. An empty block leaves a possible one as it is. */
 static void expect(const struct image *m, bool possible, const char *what)
 {
+    static const int32_t no_counts[1];
     bool held = true;
     int kind;
 
@@ -23,8 +24,7 @@ static void expect(const struct image *m, bool possible, const char *what)
         struct outcome o;
 
         lend(&l, m->settings, m->state);
-        c = kind == TICK ? tick_call(0, false, PRESSGULLY_NOTHING) : kind == LINE ? line_call(&l, 0, false, "RW") : block_call(NULL, 0, false);
-        c.counts = (const int32_t[1]){0};
+        c = kind == TICK ? tick_call(0, false, PRESSGULLY_NOTHING) : kind == LINE ? line_call(&l, 0, false, "RW") : block_call(no_counts, 0, false);
         o = run(&l, &c);
         held = held && o.kept && (possible ? !o.refused : o.told == 21); /* with an address the line is told 12 */
         held = held && (kind != BLOCK || memcmp(l.state, m->state, PRESSGULLY_STATE) == 0);
@@ -75,12 +75,13 @@ static struct image usual(const int32_t *settings)
     return m;
 }
 
-/* The same in a stage. */
+/* The same in a stage, where nothing is tracked. */
 static struct image in_stage(const int32_t *settings, int stage)
 {
     struct image m = usual(settings);
 
     put_state(m.state, STATE_STAGE, stage);
+    put_state(m.state, STATE_COUNTER, 0);
     put_state(m.state, STATE_ERROR, 0);
     put_state(m.state, STATE_JUDGEMENT, 0);
     return m;
@@ -190,15 +191,21 @@ static void balance(void)
     }
 }
 
-/* Before the first good tick there is no day, though ticks may be counted. */
+/* Before the first good tick there is no day, though ticks may be counted, and none of them was good. */
 static void no_good_tick(void)
 {
     struct image m = day(0, 0, 0, 0, 0, DAY), n;
 
+    put_state(m.state, STATE_RUN, 0);
+    put_state(m.state, STATE_COUNTER, 0);
+    expect(&m, true, "a good tick, at 0");
     put_state(m.state, STATE_BEGUN, 0);
     put_state(m.state, STATE_CONTACT, 0);
+    expect(&m, false, "no good tick, but the last was");
+    put_state(m.state, STATE_LAST_GOOD, 0);
     expect(&m, true, "no good tick yet");
-    expect_number(&m, STATE_CONTACT, 1, false);
+    ends(&m, STATE_LAST_GOOD, 0, 0);
+    ends(&m, STATE_CONTACT, 0, 0);
     n = m;
     put_state(n.state, STATE_OPENING, 1);
     put_state(n.state, STATE_LAST, 1);
@@ -226,18 +233,95 @@ static void weighing(void)
 
     ends(&m, STATE_RUN, 0, 100);
     ends(&large, STATE_RUN, 0, 500);
-    expect_number(&m, STATE_LAST_GOOD, 0, false); /* with a run */
-    put_state(m.state, STATE_RUN, 0);
-    ends(&m, STATE_LAST_GOOD, 0, 1);
-    ends(&m, STATE_TARE, 0, 10000);
-    ends(&large, STATE_TARE, 0, 800000);
     ends(&m, STATE_COUNTER, 0, 99);
     ends(&large, STATE_COUNTER, 0, 499);
-    put_setting(m.settings, SETTING_TRACKING_TIME, 1);
-    ends(&m, STATE_COUNTER, 0, 0);
-    put_setting(m.settings, SETTING_TRACKING_TIME, 0);
-    ends(&m, STATE_COUNTER, 0, 0);
+    ends(&m, STATE_TARE, 0, 10000);
+    ends(&large, STATE_TARE, 0, 800000);
     ends(&large, STATE_SHOWS_NET, 0, 1);
+    put_state(m.state, STATE_COUNTER, 0);
+    expect_number(&m, STATE_LAST_GOOD, 0, false); /* with a run */
+    put_state(m.state, STATE_RUN, 0);
+    put_state(m.state, STATE_COUNTER, 1);
+    expect_number(&m, STATE_LAST_GOOD, 0, false); /* with a counter */
+    put_state(m.state, STATE_COUNTER, 0);
+    ends(&m, STATE_LAST_GOOD, 0, 1);
+    put_state(m.state, STATE_LAST_GOOD, 0);
+    ends(&m, STATE_RUN, 0, 0);
+    ends(&m, STATE_COUNTER, 0, 0);
+}
+
+/* The last tick of a batch or a discharge was good, and it tracked nothing. */
+static void last_tick_in_stages(void)
+{
+    static const uint8_t stages[] = {3, 4, 5, 6, 7, 8, 9, 10, 11, 14, 15, 16};
+    unsigned i;
+
+    for (i = 0; i < sizeof stages; i++) {
+        struct image m = in_stage(settings_timed, stages[i]), n;
+
+        ends(&m, STATE_COUNTER, 0, 0);
+        ends(&m, STATE_RUN, 0, 100);
+        put_state(m.state, STATE_RUN, 0);
+        ends(&m, STATE_LAST_GOOD, 1, 1);
+        n = m; /* at 0 since the opening: a batch before the first good tick, but for one byte */
+        memset(n.state, 0, 32);
+        put_state(n.state, STATE_CONTACT, 0);
+        ends(&n, STATE_BEGUN, 1, 1);
+        put_state(n.state, STATE_LAST_GOOD, 0);
+        expect_number(&n, STATE_BEGUN, 0, false);
+    }
+}
+
+/* The setting with this number, all else as in the image. */
+static void expect_under(const struct image *m, enum setting s, int64_t number, bool possible, const char *what)
+{
+    struct image n = *m;
+    char words[100];
+
+    put_setting(n.settings, s, number);
+    sprintf(words, "setting %d is %lld, %s", (int)s, (long long)number, what);
+    expect(&n, possible, words);
+}
+
+/* Where the time or the width is 0 nothing is counted and nothing was tracked; each is enough, and 1 of each tracks. */
+static void tracking_off(void)
+{
+    static const enum setting offs[] = {SETTING_TRACKING_TIME, SETTING_TRACKING_WIDTH};
+    struct image m = usual(settings_timed), n;
+    unsigned i;
+
+    for (i = 0; i < 2; i++) {
+        m = usual(settings_timed);
+        put_state(m.state, STATE_COUNTER, 0);
+        expect_under(&m, offs[i], 1, true, "with a tracked sum");
+        expect_under(&m, offs[i], 0, false, "with a tracked sum");
+        n = m;
+        put_setting(n.settings, offs[i], 0);
+        put_state(n.state, STATE_TRACKED, 0);
+        ends(&n, STATE_TRACKED, 0, 0);
+        ends(&n, STATE_COUNTER, 0, 0);
+        ends(&n, STATE_ZERO, -2000, 2000);
+        put_state(n.state, STATE_STAGE, 8); /* in a stage as well */
+        put_state(n.state, STATE_ERROR, 0);
+        put_state(n.state, STATE_JUDGEMENT, 0);
+        ends(&n, STATE_TRACKED, 0, 0);
+        n = m;
+        put_setting(n.settings, offs[i], 1);
+        ends(&n, STATE_TRACKED, -20, 20);
+        ends(&n, STATE_COUNTER, 0, offs[i] == SETTING_TRACKING_TIME ? 0 : 99); /* 0..q - 1 */
+    }
+    put_state(m.state, STATE_TRACKED, 0);
+    put_state(m.state, STATE_COUNTER, 1);
+    expect_under(&m, SETTING_TRACKING_TIME, 2, true, "with a counter of 1");
+    expect_under(&m, SETTING_TRACKING_TIME, 1, false, "with a counter of 1");
+    expect_under(&m, SETTING_TRACKING_TIME, 0, false, "with a counter of 1");
+    expect_under(&m, SETTING_TRACKING_WIDTH, 1, true, "with a counter of 1");
+    expect_under(&m, SETTING_TRACKING_WIDTH, 0, false, "with a counter of 1");
+    put_state(m.state, STATE_COUNTER, 0);
+    put_setting(m.settings, SETTING_TRACKING_TIME, 0);
+    put_setting(m.settings, SETTING_TRACKING_WIDTH, 0);
+    ends(&m, STATE_TRACKED, 0, 0);
+    ends(&m, STATE_COUNTER, 0, 0);
 }
 
 static void expect_zero(int64_t zero, int64_t tracked, const int32_t *settings, bool possible)
@@ -349,9 +433,48 @@ static void setpoints(void)
 
 /* ---- Stages, timers, clocks, errors, judgements ---- */
 
+/* With setpoints of all three flows, of which mode 2 has two. */
 static bool is_stage(int n, int mode)
 {
-    return n == 0 || (n >= 3 && n <= 11) || (mode == 1 && n >= 14 && n <= 16);
+    return n == 0 || n == 3 || (n >= 6 && n <= 11) || (mode == 1 && (n == 4 || n == 5 || (n >= 14 && n <= 16)));
+}
+
+/* The stages that setpoints have, as characters, stage by stage: + possible. */
+static void flow_stages(void)
+{
+    static const struct {
+        int32_t F, FF, P, OP;
+        const char *stages[2]; /* in mode 1, in mode 2 */
+    } cases[] = { /*                 01234567890123456789    01234567890123456789 */
+        {1000, 20, 100, 300,       {"+--+++++++++--+++---", "+--+--++++++--------"}},
+        {1000, 20, 100, 0,         {"+--+--++++++--+++---", "+--+--++++++--------"}},
+        {1000, 20, 0, 300,         {"+--+++--++++--+++---", "+--+----++++--------"}},
+        {1000, 20, 0, 0,           {"+--+----++++--+++---", "+--+----++++--------"}},
+        {1, 0, 0, 1,               {"+--+++--++++--+++---", "+--+----++++--------"}}, /* one is enough */
+        {1, 0, 1, 0,               {"+--+--++++++--+++---", "+--+--++++++--------"}},
+        {1, 1, 0, 0,               {"+--+----++++--+++---", "+--+----++++--------"}},
+        {999999, 0, 999998, 999999, {"+--+++++++++--+++---", "+--+--++++++--------"}},
+        {0, 0, 0, 0,               {"+--+----------+++---", "+--+----------------"}},
+        {0, 0, 0, 400,             {NULL, "+--+----------------"}}, /* full in mode 2; no setpoints of mode 1 */
+        {0, 0, 0, 999999,          {NULL, "+--+----------------"}},
+    };
+    unsigned i;
+    int mode, stage;
+
+    for (i = 0; i < sizeof cases / sizeof cases[0]; i++)
+        for (mode = 1; mode <= 2; mode++) {
+            struct image m = in_stage(settings_timed, 0);
+
+            if (cases[i].stages[mode - 1] == NULL)
+                continue;
+            put_setting(m.settings, SETTING_MODE, mode);
+            put_state(m.state, STATE_FINAL, cases[i].F);
+            put_state(m.state, STATE_FREE_FALL, cases[i].FF);
+            put_state(m.state, STATE_PRELIMINARY, cases[i].P);
+            put_state(m.state, STATE_OPTIONAL, cases[i].OP);
+            for (stage = 0; stage < 20; stage++)
+                expect_number(&m, STATE_STAGE, stage, cases[i].stages[mode - 1][stage] == '+');
+        }
 }
 
 static void stages(void)
@@ -427,8 +550,11 @@ void test_fields(void)
     balance();
     no_good_tick();
     weighing();
+    last_tick_in_stages();
+    tracking_off();
     zeros();
     setpoints();
     stages();
+    flow_stages();
     totals();
 }

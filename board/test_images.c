@@ -204,6 +204,9 @@ void test_images(uint64_t images)
         check(fault == NULL, "images: image %llu: %s", (unsigned long long)(i - 1), fault == NULL ? "" : fault);
         i = first + PER_CHECK;
     }
+    /* an alteration that is refused at sight tries little of what follows */
+    check(seen.altered < 100 || 10 * seen.altered_taken >= seen.altered, "images: %lu of %lu altered images are possible", seen.altered_taken,
+          seen.altered);
     printf("test: %lu images at random, %lu of them altered: %lu possible (%lu of the altered), %lu told 21, %lu told 10; %lu calls went on\n",
            seen.all, seen.altered, seen.taken, seen.altered_taken, seen.impossible, seen.outside, seen.ticks);
 }

@@ -193,6 +193,44 @@ static void settings_rows(void)
     }
 }
 
+/* A state after a good tick, with setpoints that have every flow. */
+static void put_stage(struct lent *l, int stage)
+{
+    put_state(l->state, STATE_BEGUN, 1);
+    put_state(l->state, STATE_LAST_GOOD, 1);
+    put_state(l->state, STATE_FINAL, 1000);
+    put_state(l->state, STATE_PRELIMINARY, 100);
+    put_state(l->state, STATE_OPTIONAL, 300);
+    put_state(l->state, STATE_STAGE, stage);
+}
+
+/* The widest bounds that settings can give: C·p and C·d are 2^62, and every zero, tracked sum and tare is within them. */
+static void wide_bounds(void)
+{
+    static const uint8_t widest[] = {SETTING_CAPACITY, SETTING_DIVISION, SETTING_ZERO_RANGE, SETTING_ALLOWANCE};
+    static const int32_t numbers[][3] = {{INT32_MIN, INT32_MAX, INT32_MAX}, {INT32_MAX, INT32_MIN, INT32_MAX}, {INT32_MIN, INT32_MIN, 0}};
+    unsigned i, n;
+
+    for (n = 0; n < 4; n++) {
+        struct lent l;
+        struct call c = block_call(zeros, 1, false);
+        struct outcome o;
+
+        lend_a(&l);
+        for (i = 0; i < sizeof widest; i++)
+            put_setting(l.settings, (enum setting)widest[i], INT32_MIN);
+        if (n == 3) {
+            put_state(l.state, STATE_TARE, -1);
+        } else {
+            put_state(l.state, STATE_ZERO, numbers[n][0]);
+            put_state(l.state, STATE_TRACKED, numbers[n][1]);
+            put_state(l.state, STATE_TARE, numbers[n][2]);
+        }
+        o = run(&l, &c);
+        check(o.kept && o.told == (n == 3 ? 21 : 10), "order: under the widest settings, state %u: told %u", n, (unsigned)o.told);
+    }
+}
+
 /* 21 comes before 10, so a state is judged under settings that will be refused: under the numbers as given, without their signs. */
 static void judged_as_given(void)
 {
@@ -210,6 +248,8 @@ static void judged_as_given(void)
         {SETTING_ZERO_RANGE, -2, 0, STATE_ZERO, 2000}, {SETTING_ZERO_RANGE, 31, 0, STATE_ZERO, 31000},
         {SETTING_ALLOWANCE, -20, 0, STATE_TRACKED, 20}, {SETTING_ALLOWANCE, INT32_MIN, 0, STATE_TRACKED, 2000},
         {SETTING_TRACKING_TIME, -7, 0, STATE_COUNTER, 6}, {SETTING_TRACKING_TIME, 501, 0, STATE_COUNTER, 500},
+        {SETTING_TRACKING_TIME, -1, 0, STATE_TRACKED, 20}, {SETTING_TRACKING_WIDTH, -1, 0, STATE_TRACKED, 20},
+        {SETTING_TRACKING_WIDTH, 46, 0, STATE_COUNTER, 99}, {SETTING_TRACKING_WIDTH, INT32_MIN, 0, STATE_COUNTER, 99},
         {SETTING_START_DELAY, -9, 3, STATE_LASTED, 8}, {SETTING_LARGE_DISABLE, 10000, 4, STATE_LASTED, 9999},
         {SETTING_MEDIUM_DISABLE, -2, 6, STATE_LASTED, 1}, {SETTING_SMALL_DISABLE, 10001, 8, STATE_LASTED, 10000},
         {SETTING_JUDGE_DELAY, -1, 10, STATE_LASTED, 0}, {SETTING_DISCHARGE_START, -5, 14, STATE_LASTED, 4},
@@ -219,7 +259,7 @@ static void judged_as_given(void)
         {SETTING_MODE, -1, 11, STATE_JUDGEMENT, 0}, {SETTING_MODE, 3, 0, STATE_ERROR, 6},
     };
     unsigned i;
-    int more;
+    int more, stage;
 
     for (i = 0; i < sizeof cases / sizeof cases[0]; i++)
         for (more = 0; more <= 1; more++) {
@@ -229,24 +269,26 @@ static void judged_as_given(void)
 
             lend_a(&l);
             put_setting(l.settings, cases[i].s, cases[i].number);
-            put_state(l.state, STATE_LAST_GOOD, 1);
-            put_state(l.state, STATE_STAGE, cases[i].stage);
+            put_stage(&l, cases[i].stage);
             put_state(l.state, cases[i].f, cases[i].most + more);
             o = run(&l, &c);
             check(o.kept && o.told == (more ? 21 : 10), "order: setting %d is %ld, %s %ld: told %u", (int)cases[i].s, (long)cases[i].number,
                   state_names[cases[i].f], (long)cases[i].most + more, (unsigned)o.told);
         }
+    wide_bounds();
     /* a mode that is not 1 is mode 2 */
     for (more = 0; more <= 4; more++) {
         struct lent l;
         struct call c = block_call(zeros, 1, false);
         struct outcome o;
 
-        lend_a(&l);
-        put_setting(l.settings, SETTING_MODE, more);
-        put_state(l.state, STATE_STAGE, 14);
-        o = run(&l, &c);
-        check(o.kept && o.told == (more == 1 ? 0 : 21), "order: stage 14 in mode %d: told %u", more, (unsigned)o.told);
+        for (stage = 4; stage <= 14; stage += 10) {
+            lend_a(&l);
+            put_setting(l.settings, SETTING_MODE, more);
+            put_stage(&l, stage);
+            o = run(&l, &c);
+            check(o.kept && o.told == (more == 1 ? 0 : 21), "order: stage %d in mode %d: told %u", stage, more, (unsigned)o.told);
+        }
         lend_a(&l);
         put_setting(l.settings, SETTING_MODE, more);
         put_state(l.state, STATE_OPTIONAL, 1); /* full, with a final of 0 */

@@ -105,14 +105,15 @@ void draw_settings(uint8_t *settings)
 
 /* ---- States ---- */
 
-/* Day books that balance. With r refilled and at most 8,000,000 between opening and what was booked last, used is within r and those. */
+/* Day books that balance. With r refilled and at most 8,000,000 between opening and what was booked last, used is within r and those. The
+ * stage is drawn already: with one that is not 0 there has been a good tick. */
 static void draw_day(uint8_t *state)
 {
     const int64_t ticks = one_in(4) ? 8640000 : draw_from(0, one_in(2) ? 8640000 : 5);
     int64_t opening, booked, refilled = 0, last;
 
     put_state(state, STATE_TICKS, ticks);
-    if (one_in(8))
+    if (state_number(state, STATE_STAGE) == 0 && one_in(4))
         return; /* no good tick yet */
     opening = draw_from(-4000000, 4000000);
     booked = ticks == 0 ? opening : draw_from(-4000000, 4000000);
@@ -128,18 +129,23 @@ static void draw_day(uint8_t *state)
     put_state(state, STATE_LAST, last);
 }
 
+/* Under the stage and the day that are drawn. */
 static void draw_weighing(const uint8_t *settings, uint8_t *state)
 {
-    const int64_t C = setting(settings, SETTING_CAPACITY), L = setting(settings, SETTING_ALLOWANCE);
+    const int64_t C = setting(settings, SETTING_CAPACITY), q = setting(settings, SETTING_TRACKING_TIME);
     const int64_t zeroed = C * setting(settings, SETTING_ZERO_RANGE) / 10, zero = draw_from(-zeroed, zeroed);
+    const bool tracks = q != 0 && setting(settings, SETTING_TRACKING_WIDTH) != 0, resting = state_number(state, STATE_STAGE) == 0;
+    const int64_t L = tracks ? setting(settings, SETTING_ALLOWANCE) : 0;
+    const bool good = state_number(state, STATE_BEGUN) == 1 && (!resting || !one_in(4));
 
-    put_state(state, STATE_LAST_GOOD, draw_from(0, 1));
-    if (state_number(state, STATE_LAST_GOOD) == 1)
+    put_state(state, STATE_LAST_GOOD, good);
+    if (good)
         put_state(state, STATE_RUN, draw_from(0, setting(settings, SETTING_STABILITY_TIME)));
+    if (good && resting && tracks)
+        put_state(state, STATE_COUNTER, draw_from(0, q - 1));
     put_state(state, STATE_ZERO, zero);
     put_state(state, STATE_TRACKED, draw_from(most_of(-L, zero - zeroed), least_of(L, zero + zeroed)));
     put_state(state, STATE_TARE, one_in(2) ? 0 : draw_from(0, C * setting(settings, SETTING_DIVISION)));
-    put_state(state, STATE_COUNTER, draw_from(0, most_of(setting(settings, SETTING_TRACKING_TIME) - 1, 0)));
     put_state(state, STATE_SHOWS_NET, draw_from(0, 1));
 }
 
@@ -156,12 +162,27 @@ static void draw_points(int mode, int64_t *points)
         points[i] = draw_from(0, 999999);
 }
 
+/* A stage that the mode and the setpoints in force have. */
+static uint8_t draw_stage(bool normal, const uint8_t *state)
+{
+    const bool large = normal && state_number(state, STATE_OPTIONAL) != 0, medium = state_number(state, STATE_PRELIMINARY) != 0;
+    uint8_t stages[13];
+    unsigned n = 0, stage;
+
+    for (stage = 3; stage <= 16; stage++) {
+        const bool has = stage == 3 || (stage < 12 && state_number(state, STATE_FINAL) != 0) || (stage > 13 && normal);
+
+        if (has && (large || (stage != 4 && stage != 5)) && (medium || (stage != 6 && stage != 7)))
+            stages[n++] = (uint8_t)stage;
+    }
+    return one_in(3) ? 0 : stages[draw() % n];
+}
+
 static void draw_sequence(const uint8_t *settings, uint8_t *state)
 {
-    static const uint8_t stages[] = {3, 4, 5, 6, 7, 8, 9, 10, 11, 14, 15, 16}; /* the last three in mode 1 alone */
-    static const uint8_t errors[] = {0, 0, 1, 2, 4, 6, 9, 10, 7, 8};          /* the last two in mode 1 alone */
+    static const uint8_t errors[] = {0, 0, 1, 2, 4, 6, 9, 10, 7, 8}; /* the last two in mode 1 alone */
     const bool normal = setting(settings, SETTING_MODE) == 1;
-    const uint8_t stage = one_in(4) ? 0 : stages[draw() % (normal ? 12 : 9)];
+    const uint8_t stage = draw_stage(normal, state);
     const bool flow = stage >= 4 && stage <= 11, discharge = stage >= 15;
     static const int8_t delays[17] = {
         -1, -1, -1, SETTING_START_DELAY, SETTING_LARGE_DISABLE, -1, SETTING_MEDIUM_DISABLE, -1, SETTING_SMALL_DISABLE, -1,
@@ -197,12 +218,12 @@ void draw_state(const uint8_t *settings, uint8_t *state)
     int i;
 
     memset(state, 0, PRESSGULLY_STATE);
-    draw_day(state);
-    draw_weighing(settings, state);
     draw_points(setting(settings, SETTING_MODE) == 1 ? 1 : 2, points);
     for (i = 0; i < PRESSGULLY_POINTS; i++)
         put_state(state, (enum state_field)(STATE_FINAL + i), points[i]);
     draw_sequence(settings, state);
+    draw_day(state);
+    draw_weighing(settings, state);
     draw_totals(state);
 }
 
@@ -234,6 +255,22 @@ static void shift_day(uint8_t *state)
     put_state(state, parts[j], (int64_t)((uint64_t)state_number(state, parts[j]) - (uint64_t)(signs[j] * moved)));
 }
 
+/* What the stage and the last tick hang together with, without the others: alterations by chance seldom break one of those rows alone. */
+static void alter_tied(uint8_t *state)
+{
+    int i;
+
+    switch (draw() % 4) {
+    case 0: put_state(state, STATE_STAGE, (int64_t)(draw() % 17)); break;
+    case 1: put_state(state, one_in(2) ? STATE_PRELIMINARY : STATE_OPTIONAL, 0); break;
+    case 2: put_state(state, one_in(2) ? STATE_LAST_GOOD : STATE_BEGUN, draw_from(0, 1)); break;
+    default:
+        for (i = STATE_FINAL; i <= STATE_OPTIONAL; i++)
+            put_state(state, (enum state_field)i, 0);
+        break;
+    }
+}
+
 void alter(uint8_t *settings, uint8_t *state)
 {
     const enum setting s = (enum setting)(draw() % SETTINGS);
@@ -246,12 +283,13 @@ void alter(uint8_t *settings, uint8_t *state)
     case 8: state[draw() % 120] ^= (uint8_t)(1u << draw() % 8); break;
     case 9: put_setting(settings, s, setting(settings, s) + draw_from(-1, 1)); break;
     case 10: put_setting(settings, s, (int32_t)draw()); break;
-    case 11: put_setting(settings, s, -setting(settings, s)); break; /* judged without its sign, then 10 */
+    case 11: put_setting(settings, s, one_in(2) ? 0 : -setting(settings, s)); break; /* judged without its sign, then 10 */
     case 12: settings[draw() % PRESSGULLY_SETTINGS] ^= (uint8_t)(1u << draw() % 8); break;
     case 13: /* bytes of nothing */
         for (i = 0; i < PRESSGULLY_STATE; i++)
             state[i] = (uint8_t)draw();
         break;
+    case 14: alter_tied(state); break;
     default: /* two fields in one go */
         alter_field(state);
         alter_field(state);

@@ -83,14 +83,17 @@ static bool weighing_fits(const uint8_t *settings, const uint8_t *state)
 {
     const int64_t zero = state_number(state, STATE_ZERO), tracked = state_number(state, STATE_TRACKED);
     const int64_t range = given(settings, SETTING_CAPACITY) * given(settings, SETTING_ZERO_RANGE);
-    const int64_t q = given(settings, SETTING_TRACKING_TIME);
-    const int64_t run_limit = state_number(state, STATE_LAST_GOOD) == 1 ? given(settings, SETTING_STABILITY_TIME) : 0;
+    const int64_t good = state_number(state, STATE_LAST_GOOD);
+    const int64_t q = given(settings, SETTING_TRACKING_TIME), counter = state_number(state, STATE_COUNTER);
+    const bool tracks = q != 0 && given(settings, SETTING_TRACKING_WIDTH) != 0, resting = state_number(state, STATE_STAGE) == 0;
 
-    return state_number(state, STATE_LAST_GOOD) <= 1 && state_number(state, STATE_RUN) <= run_limit
+    if (good > 1 || (good == 1 && state_number(state, STATE_BEGUN) == 0) || (good == 0 && !resting))
+        return false;
+    return state_number(state, STATE_RUN) <= (good == 1 ? given(settings, SETTING_STABILITY_TIME) : 0)
         && 10 * without_sign(zero) <= range && 10 * without_sign(zero - tracked) <= range
-        && without_sign(tracked) <= given(settings, SETTING_ALLOWANCE)
+        && without_sign(tracked) <= (tracks ? given(settings, SETTING_ALLOWANCE) : 0)
         && within(state_number(state, STATE_TARE), 0, given(settings, SETTING_CAPACITY) * given(settings, SETTING_DIVISION))
-        && state_number(state, STATE_COUNTER) <= (q == 0 ? 0 : q - 1) && state_number(state, STATE_SHOWS_NET) <= 1;
+        && counter <= (tracks && resting && good == 1 ? q - 1 : 0) && state_number(state, STATE_SHOWS_NET) <= 1;
 }
 
 /* The outline's rules, those of refusal 6. */
@@ -137,13 +140,25 @@ static int64_t clock_limit(const uint8_t *settings, int64_t stage)
     return stage == 15 || stage == 16 ? given(settings, SETTING_DISCHARGE_LIMIT) : 0;
 }
 
+/* A flow stage is one that these setpoints lead to; no write alters them before stage 0. */
+static bool flow_fits(const uint8_t *settings, const uint8_t *state)
+{
+    const int64_t stage = state_number(state, STATE_STAGE);
+
+    if (within(stage, 4, 11) && state_number(state, STATE_FINAL) == 0)
+        return false;
+    if (within(stage, 4, 5) && (mode_of(settings) != 1 || state_number(state, STATE_OPTIONAL) == 0))
+        return false;
+    return !within(stage, 6, 7) || state_number(state, STATE_PRELIMINARY) != 0;
+}
+
 static bool sequence_fits(const uint8_t *settings, const uint8_t *state)
 {
     const int64_t stage = state_number(state, STATE_STAGE), error = state_number(state, STATE_ERROR);
     const int64_t delay = delay_of(settings, stage);
     const bool normal = mode_of(settings) == 1;
 
-    if (!(stage == 0 || within(stage, 3, 11) || (normal && within(stage, 14, 16))))
+    if (!(stage == 0 || within(stage, 3, 11) || (normal && within(stage, 14, 16))) || !flow_fits(settings, state))
         return false;
     if (state_number(state, STATE_LASTED) > (delay == 0 ? 0 : delay - 1) || state_number(state, STATE_CLOCK) > clock_limit(settings, stage))
         return false;
