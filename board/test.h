@@ -48,6 +48,19 @@ struct buffers {
     const int32_t *counts;
 };
 
+/* The four calls, since a program may have them twice (beside.c). */
+struct calls {
+    uint32_t (*open)(const uint8_t *settings, size_t settings_len, uint8_t *state, size_t state_len);
+    uint32_t (*tick)(const uint8_t *settings, size_t settings_len, uint8_t *state, size_t state_len, int32_t count, bool contact,
+                     uint32_t request, const uint32_t *points, size_t points_len, uint8_t *answer, size_t answer_len);
+    uint32_t (*line)(const uint8_t *settings, size_t settings_len, uint8_t *state, size_t state_len, int32_t count, bool contact,
+                     const uint8_t *receive, size_t receive_len, uint8_t *reply, size_t reply_len, uint8_t *answer, size_t answer_len);
+    uint32_t (*block)(const uint8_t *settings, size_t settings_len, uint8_t *state, size_t state_len, const int32_t *counts,
+                      size_t counts_len, bool contact);
+};
+
+extern const struct calls library; /* those of pressgully.h */
+
 struct outcome {
     uint32_t told;
     bool kept;    /* no byte changed but those that such a call may write, and the answer's first is what was told */
@@ -62,8 +75,17 @@ struct call tick_call(int32_t count, bool contact, uint32_t request);
 struct call line_call(struct lent *l, int32_t count, bool contact, const char *line); /* the line goes with CR LF to the receive buffer */
 struct call block_call(const int32_t *counts, size_t n, bool contact);
 
+/* The line that asks what the tick is asked by number; one that is asked nothing reads the weight. */
+struct call as_line(struct lent *l, const struct call *c);
+
 /* The call as it is, and what it answers. */
-uint32_t made(const struct buffers *b, const struct call *c);
+uint32_t made(const struct calls *by, const struct buffers *b, const struct call *c);
+uint32_t made_on(const struct calls *by, struct lent *l, const struct call *c);
+
+/* No tick was run. A line told 14 with room for its answer has had its tick. */
+bool is_refused(const struct call *c, uint32_t told);
+
+void clear(struct lent *l); /* fills answer and reply buffer anew */
 
 /* The call on guarded buffers; answer and reply buffer are filled anew before it, so that nothing of an earlier one is taken for its own. */
 struct outcome run(struct lent *l, const struct call *c);
@@ -95,6 +117,21 @@ void draw_settings(uint8_t *settings);                   /* inside the outline's
 void draw_state(const uint8_t *settings, uint8_t *state); /* possible under these settings, often at a range's end */
 void alter(uint8_t *settings, uint8_t *state);            /* a byte or a field, mostly of the state, mostly by little */
 struct call draw_call(struct lent *l, const int32_t *counts, size_t counts_len); /* any tick, line or block under l's settings */
+
+/* ---- A plant whose weight answers the gates (test_plant.c) ---- */
+
+struct plant {
+    int64_t count; /* what the cell tells */
+    int64_t step;  /* a large flow of one tick */
+    bool refill;   /* a tanker's valve is open */
+};
+
+void plant_settings(uint8_t *settings); /* that a plant can live with: calm soon, delays short, mostly */
+void draw_setpoints(struct lent *l);    /* into l's points, for a write */
+struct plant plant_of(const uint8_t *settings);
+int32_t plant_count(struct plant *p, const struct lent *l); /* the next count, after l's answer */
+bool plant_contact(const struct plant *p);
+struct call plant_tick(struct plant *p, struct lent *l); /* the next tick, with what an operator may ask */
 
 /* ---- Settings to start from (test_random.c) ---- */
 

@@ -1,6 +1,7 @@
 /* Calls on guarded buffers: what a call changed is compared with what such a call may change. */
 #include "test.h"
 
+#include <stdio.h>
 #include <string.h>
 
 enum { STALE = 0xa5 };
@@ -64,24 +65,43 @@ struct call block_call(const int32_t *counts, size_t n, bool contact)
     return c;
 }
 
-uint32_t made(const struct buffers *b, const struct call *c)
+/* The two letters that ask the same, by number; 0 is asked by a read as well. */
+static const char *const letters[] = {"RW", "MZ", "MT", "CT", "BB", "HB", "SS", "DT", "CA", "MG", "MN", "DC", "BD"};
+
+struct call as_line(struct lent *l, const struct call *c)
+{
+    const int address = (int)setting(l->settings, SETTING_ADDRESS);
+    char line[80];
+    int at = 0, i;
+
+    if (address != 0)
+        at = sprintf(line, "@%02d", address);
+    at += sprintf(line + at, "%s", letters[c->request]);
+    if (c->request == PRESSGULLY_SET)
+        for (i = 0; i < PRESSGULLY_POINTS; i++)
+            at += sprintf(line + at, "%06lu", (unsigned long)l->points[i]);
+    return line_call(l, c->count, c->contact, line);
+}
+
+const struct calls library = {pressgully_open, pressgully_tick, pressgully_line, pressgully_block};
+
+uint32_t made(const struct calls *by, const struct buffers *b, const struct call *c)
 {
     switch (c->kind) {
     case OPEN:
-        return pressgully_open(b->settings, c->settings_len, b->state, c->state_len);
+        return by->open(b->settings, c->settings_len, b->state, c->state_len);
     case TICK:
-        return pressgully_tick(b->settings, c->settings_len, b->state, c->state_len, c->count, c->contact, c->request, b->points,
-                               c->points_len, b->answer, c->answer_len);
+        return by->tick(b->settings, c->settings_len, b->state, c->state_len, c->count, c->contact, c->request, b->points, c->points_len,
+                        b->answer, c->answer_len);
     case LINE:
-        return pressgully_line(b->settings, c->settings_len, b->state, c->state_len, c->count, c->contact, b->receive, c->receive_len,
-                               b->reply, c->reply_len, b->answer, c->answer_len);
+        return by->line(b->settings, c->settings_len, b->state, c->state_len, c->count, c->contact, b->receive, c->receive_len, b->reply,
+                        c->reply_len, b->answer, c->answer_len);
     default:
-        return pressgully_block(b->settings, c->settings_len, b->state, c->state_len, b->counts, c->counts_len, c->contact);
+        return by->block(b->settings, c->settings_len, b->state, c->state_len, b->counts, c->counts_len, c->contact);
     }
 }
 
-/* A line told 14 with room for its answer has had its tick. */
-static bool is_refused(const struct call *c, uint32_t told)
+bool is_refused(const struct call *c, uint32_t told)
 {
     switch (told) {
     case 20: case 21: case 10:
@@ -95,16 +115,27 @@ static bool is_refused(const struct call *c, uint32_t told)
     }
 }
 
-struct outcome run(struct lent *l, const struct call *c)
+void clear(struct lent *l)
+{
+    memset(l->answer, STALE, sizeof l->answer);
+    memset(l->reply, STALE, sizeof l->reply);
+}
+
+uint32_t made_on(const struct calls *by, struct lent *l, const struct call *c)
 {
     const struct buffers b = {l->settings, l->state, l->points, l->receive, l->reply, l->answer, c->counts};
+
+    return made(by, &b, c);
+}
+
+struct outcome run(struct lent *l, const struct call *c)
+{
     struct lent before;
     struct outcome o;
 
-    memset(l->answer, STALE, sizeof l->answer);
-    memset(l->reply, STALE, sizeof l->reply);
+    clear(l);
     before = *l;
-    o.told = made(&b, c);
+    o.told = made_on(&library, l, c);
     o.refused = is_refused(c, o.told);
     o.kept = true;
     if (!o.refused) { /* what may change is taken over; all else is compared below */

@@ -33,7 +33,7 @@ static bool does_the_same(const struct lent *lent, const struct lent *left, cons
     uint8_t *answer = copied(lent->answer, c->answer_len);
     int32_t *counts = copied(c->kind == BLOCK ? c->counts : no_counts, c->counts_len * sizeof counts[0]);
     const struct buffers b = {settings, state, points, receive, reply, answer, counts};
-    const bool same = made(&b, c) == told && memcmp(state, left->state, c->state_len) == 0
+    const bool same = made(&library, &b, c) == told && memcmp(state, left->state, c->state_len) == 0
                    && memcmp(answer, left->answer, c->answer_len) == 0 && memcmp(reply, left->reply, c->reply_len) == 0;
 
     release(settings);

@@ -41,24 +41,6 @@ static void keep_worth(const struct lent *l)
         keep(STAGES + ERRORS + 3, l);
 }
 
-/* The two letters that ask the same, by number; 0 is asked by a read as well. */
-static const char *const letters[] = {"RW", "MZ", "MT", "CT", "BB", "HB", "SS", "DT", "CA", "MG", "MN", "DC", "BD"};
-
-static struct call as_line(struct lent *l, const struct call *c)
-{
-    const int address = (int)setting(l->settings, SETTING_ADDRESS);
-    char line[80];
-    int at = 0, i;
-
-    if (address != 0)
-        at = sprintf(line, "@%02d", address);
-    at += sprintf(line + at, "%s", letters[c->request]);
-    if (c->request == PRESSGULLY_SET)
-        for (i = 0; i < PRESSGULLY_POINTS; i++)
-            at += sprintf(line + at, "%06lu", (unsigned long)l->points[i]);
-    return line_call(l, c->count, c->contact, line);
-}
-
 /* The tick by number and by line, and, asked nothing, as a block of one: the same image, the same outputs. l goes on with the first. */
 static bool is_one(struct lent *l, const struct call *c)
 {
@@ -77,72 +59,7 @@ static bool is_one(struct lent *l, const struct call *c)
     return one;
 }
 
-/* ---- The plant ---- */
-
-struct plant {
-    int64_t count; /* what the cell tells */
-    int64_t step;  /* a large flow of one tick */
-};
-
-static int32_t flow(struct plant *p, const struct lent *l)
-{
-    const int sign = setting(l->settings, SETTING_MODE) == 1 ? 1 : -1;
-    const uint8_t *answer = l->answer;
-
-    if (answer[5] == 1)
-        p->count += sign * p->step;
-    else if (answer[6] == 1)
-        p->count += sign * p->step / 4;
-    else if (answer[7] == 1)
-        p->count += sign * p->step / 16;
-    if (answer[8] == 1 && p->count > setting(l->settings, SETTING_ZERO_COUNT))
-        p->count -= p->step;
-    if (one_in(400))
-        p->count = draw_from(setting(l->settings, SETTING_ZERO_COUNT), setting(l->settings, SETTING_SPAN_COUNT));
-    if (one_in(3000))
-        return 2000001 + (int32_t)(draw() % 1000);
-    if (one_in(3000))
-        return (int32_t)draw_from(-2000000, 2000000);
-    return (int32_t)p->count;
-}
-
-static uint32_t request_of(const struct lent *l)
-{
-    static const uint8_t idle[] = {PRESSGULLY_START, PRESSGULLY_START, PRESSGULLY_DISCHARGE, PRESSGULLY_SET, PRESSGULLY_ZERO, PRESSGULLY_TARE,
-                                   PRESSGULLY_TARE_CLEAR, PRESSGULLY_UNDO, PRESSGULLY_DAY_CLOSE, PRESSGULLY_SHOW_NET, PRESSGULLY_SHOW_GROSS};
-
-    if (l->state[88] == 0 && one_in(20))
-        return idle[draw() % sizeof idle];
-    return one_in(200) ? (uint32_t)(draw() % 13) : PRESSGULLY_NOTHING;
-}
-
-static void draw_setpoints(struct lent *l)
-{
-    const int64_t most = setting(l->settings, SETTING_SPAN_WEIGHT) * setting(l->settings, SETTING_DIVISION);
-    int i;
-
-    for (i = 0; i <= PRESSGULLY_POINTS; i++)
-        l->points[i] = (uint32_t)(most / 50);
-    l->points[0] = (uint32_t)(most * draw_from(10, 90) / 100);
-    l->points[2] = one_in(3) ? 0 : (uint32_t)(most / 25 + 1);
-    l->points[3] = one_in(3) ? 0 : (uint32_t)(most / 10 + 2);
-}
-
-/* Settings that a plant can live with: calm soon, delays short, mostly. */
-static void plant_settings(uint8_t *settings)
-{
-    int i;
-
-    draw_settings(settings);
-    put_setting(settings, SETTING_STABILITY_TIME, 10);
-    for (i = SETTING_START_DELAY; i <= SETTING_JUDGE_DELAY; i++)
-        put_setting(settings, (enum setting)i, draw_from(0, 12));
-    put_setting(settings, SETTING_DISCHARGE_START, draw_from(0, 12));
-    put_setting(settings, SETTING_DISCHARGE_END, draw_from(0, 12));
-    put_setting(settings, SETTING_FLOW_LIMIT, draw_from(20, 4000));
-    put_setting(settings, SETTING_DISCHARGE_LIMIT, draw_from(5, 400));
-    put_setting(settings, SETTING_TRACKING_TIME, draw_from(0, 6));
-}
+/* ---- Runs ---- */
 
 static void plant_run(int number, int ticks)
 {
@@ -161,15 +78,9 @@ static void plant_run(int number, int ticks)
     draw_setpoints(&l);
     held = run(&l, &c).told == 0;
     memset(l.answer, 0, sizeof l.answer);
-    p.count = setting(settings, SETTING_ZERO_COUNT);
-    p.step = (setting(settings, SETTING_SPAN_COUNT) - p.count) / 60;
+    p = plant_of(settings);
     for (i = 0; i < ticks && held && fault == NULL; i++) {
-        const int32_t count = flow(&p, &l);
-        const uint32_t request = request_of(&l);
-
-        if (request == PRESSGULLY_SET)
-            draw_setpoints(&l);
-        c = tick_call(count, one_in(2), request);
+        c = plant_tick(&p, &l);
         held = is_one(&l, &c);
         fault = untrue(l.settings, l.state, l.answer);
         keep_worth(&l);
