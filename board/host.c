@@ -65,7 +65,7 @@ static bool take_number(struct line *line, int32_t *number)
     return digits > 0;
 }
 
-/* The settings line: 25 numbers, parted by single spaces. */
+/* The settings line: 25 numbers, separated by single spaces. */
 static bool take_settings(struct line *line, uint8_t *settings)
 {
     int i;

@@ -7,7 +7,8 @@
  *
  * Each call answers 0 or the number of a refusal; the first that applies is given:
  *   20  a settings or state image of a wrong length
- *   21  an impossible image: a field out of its range, an unused byte that is not 0, a day that does not balance
+ *   21  an impossible image: a field out of its range, an unused byte that is not 0, a day that does not balance, a tracked sum past the
+ *       allowance
  *   10  settings outside the outline's table
  *   14  an answer buffer of fewer than PRESSGULLY_ANSWER bytes (a tick or a line)
  *   15  a block of more than PRESSGULLY_BLOCK counts

@@ -99,7 +99,7 @@ static bool take_space(const uint8_t **at, const uint8_t *end)
     return true;
 }
 
-/* 25 whole numbers parted by single spaces. */
+/* 25 whole numbers separated by single spaces. */
 static bool read_settings(const uint8_t *line, size_t length, struct given *g)
 {
     const uint8_t *at = line, *end = line + length;

@@ -7,7 +7,7 @@ use mathlib.Core.List.{List, [], _∷_, foldl}
 use lib.Dec.{eqb, leb}
 use lib.ListN.{length}
 use lib.IntN.{ℤ}
-use borrow.Author.Tests.{eq-eqb, eqb-true}
+use borrow.Author.Tests.{eq-eqb, eqb-true, lt-ltb}
 use Rattle.types.specs.declared.settings.Given.{Given}
 use Rattle.types.specs.declared.settings.Settings.{Settings}
 use Rattle.types.specs.declared.settings.Opening.the-variants as opening
@@ -23,6 +23,7 @@ use Rattle.outline.specs.Numbers.{openingNumber}
 use Rattle.outline.specs.Tick.{openState, nextOf, tickOf, countIn, blockOf, unaskedOf}
 use Rattle.outline.specs.Replies.{askedOf, dueText, lineTickOf}
 use Rattle.outline.proofs.Parts.{clash}
+use Rattle.outline.proofs.LineBytes.{reply-bounded}
 use Rattle.outline.specs.Run.{History, start, _▷_, runOf, runFrom, thenAll, blockInputs, lineInput}
 use Rattle.images.specs.StateImage.{stateLength, imageOf}
 use Rattle.images.specs.GivenImage.{givenImage, givenIn}
@@ -33,10 +34,10 @@ use Rattle.images.specs.Owed.{good}
 use Rattle.images.proofs.GivenTrip.{given-back}
 use Rattle.images.proofs.Trip.{one-image}
 use Rattle.images.proofs.FromImages.{runs-pass, from-images}
-use Rattle.board.specs.AnswerImage.{answerLength}
+use Rattle.board.specs.AnswerImage.{answerLength, lengthByte}
 use Rattle.board.proofs.Cases.{made-of}
 use Rattle.board.specs.Board.{imagesRefusal, callRefusal, givenBy, settingsBy, stateBy, refusalBy, lengthRefusal, openAnswer, openImage, ifRoom, inputBy, tickBy, tickImage, lineBy, lineImage, blockBy, blockImage}
-use Rattle.board.specs.Owed.{Call, tick, line, block, imageAfter, imageRun, ticksOf, stateRun, historyOf, CallsAreTicks, CallsAreRuns}
+use Rattle.board.specs.Owed.{Call, tick, line, block, imageAfter, imageRun, ticksOf, stateRun, historyOf, CallsAreTicks, OpensARun, CallsAreRuns, LengthTold}
 
 -- ---- what is not refused: settings that were accepted, and a state that its image gives back
 record Passed (l t : List ℕ) : Type 0 where
@@ -132,16 +133,19 @@ module _ (l t : List ℕ) (r : refusalBy l t ≡ 0) where
 -- ---- any calls
 pub calls-are-ticks : CallsAreTicks
 unfolding imageRun stateRun
-calls-are-ticks l t r [] = sym (own l t r)
+calls-are-ticks l t r [] = record { image = sym (own l t r); passes = r }
 calls-are-ticks l t r (c ∷ cs) =
     let p = passes l t r in
     let s = settingsBy l in
     let next = runFrom s (stateBy l t) (ticksOf s (stateBy l t) c) in
     let back = from-images (givenBy l) s (p .opened) t (p .state) (ticksOf s (stateBy l t) c) .image in
     let again = unrefused l (imageOf next) s (p .given) (ap (λ (x : StateRead). x .refusal) back) (p .opened) in
-    ap (λ (x : List ℕ). imageRun l x cs) (one-call l t r c)
-    ∙ calls-are-ticks l (imageOf next) again cs
-    ∙ ap (λ (x : StateRead). imageOf (stateRun s (x .state) cs)) back
+    let rest = calls-are-ticks l (imageOf next) again cs in
+    let one = one-call l t r c in
+    record {
+      image = ap (λ (x : List ℕ). imageRun l x cs) one ∙ rest .image ∙ ap (λ (x : StateRead). imageOf (stateRun s (x .state) cs)) back;
+      passes = ap (λ (x : List ℕ). refusalBy l (imageRun l x cs)) one ∙ rest .passes;
+    }
 
 -- ---- from an opening
 run-then : (s : Settings) (h : History Input) (is : List Input) → runFrom s (runOf s h) is ≡ runOf s (thenAll h is)
@@ -155,27 +159,27 @@ runs-on s h [] = refl
 runs-on s h (c ∷ cs) =
     ap (λ (st : State). stateRun s st cs) (run-then s h (ticksOf s (runOf s h) c)) ∙ runs-on s (thenAll h (ticksOf s (runOf s h) c)) cs
 
-first : (s : Settings) → runOf s start ≡ openState
-unfolding runOf
-first s = refl
-
-opened-image : (g : Given) (s : Settings) → Held g → openOf g ≡ opening.Accepted s → (t : List ℕ) → length t ≡ stateLength → openImage (givenImage g) t ≡ imageOf openState
-unfolding openImage openAnswer lengthRefusal callRefusal imagesRefusal
-opened-image g s held o t n =
+pub opens-a-run : OpensARun
+unfolding openImage openAnswer lengthRefusal callRefusal imagesRefusal runOf
+opens-a-run g s held o t n =
     let back = given-back g held in
     simp (ap (λ (x : GivenRead). x .refusal) back, ap openOf (ap (λ (x : GivenRead). x .given) back) ∙ o, n)
 
 pub calls-are-runs : CallsAreRuns
-calls-are-runs g s held o t n cs =
+calls-are-runs g s held o h cs =
     let l = givenImage g in
     let back = given-back g held in
     let given : givenIn l .refusal ≡ 0 = ap (λ (x : GivenRead). x .refusal) back in
     let same : givenBy l ≡ g = ap (λ (x : GivenRead). x .given) back in
     let accepted : openOf (givenBy l) ≡ opening.Accepted s = ap openOf same ∙ o in
-    let pass = runs-pass g s o start in
-    let state : stateIn (givenBy l) (imageOf (runOf s start)) ≡ good (runOf s start) = ap (λ (x : Given). stateIn x (imageOf (runOf s start))) same ∙ pass in
-    let whole = unrefused l (imageOf (runOf s start)) s given (ap (λ (x : StateRead). x .refusal) state) accepted in
-    ap (λ (x : List ℕ). imageRun l x cs) (opened-image g s held o t n ∙ ap imageOf (sym (first s)))
-    ∙ calls-are-ticks l (imageOf (runOf s start)) whole cs
+    let state : stateIn (givenBy l) (imageOf (runOf s h)) ≡ good (runOf s h) = ap (λ (x : Given). stateIn x (imageOf (runOf s h))) same ∙ runs-pass g s o h in
+    let whole = unrefused l (imageOf (runOf s h)) s given (ap (λ (x : StateRead). x .refusal) state) accepted in
+    calls-are-ticks l (imageOf (runOf s h)) whole cs .image
     ∙ (λ i. imageOf (stateRun (made-of (givenBy l) s accepted i) (state i .state) cs))
-    ∙ ap imageOf (runs-on s start cs)
+    ∙ ap imageOf (runs-on s h cs)
+
+-- no reply is longer than a line
+pub length-told : LengthTold
+unfolding lengthByte
+length-told s st count contact receive reply =
+    simp (lt-ltb (lineTickOf s st count contact receive reply .length) 256 (omega (arith, reply-bounded s st count contact receive reply .line)))

@@ -75,7 +75,7 @@ dayRows = row 24 4 ∷ row 28 4 ∷ row 32 8 ∷ row 40 8 ∷ row 48 8 ∷ []
 abbrev pub dayNumbers : Book → List ℕ
 dayNumbers b = coded w32 (b .opening) ∷ coded w32 (b .last) ∷ coded w64 (b .refilled) ∷ coded w64 (b .used) ∷ coded w64 (b .unbooked) ∷ []
 
--- ---- the analog value, as the bits of a double; no value is a NaN, which alone is not equal to itself
+-- ---- the analog value, as the bits of a double; 0 for a NaN, which alone is not equal to itself
 unfoldable pub floatBits : Float → ℕ
 floatBits x = cond (ne x x) 0 (toBits binary64 x)
 
@@ -100,6 +100,6 @@ answerNumbers n length a =
     weightNumbers n (a .reading) ++ gateNumbers (stageNumber (a .stage)) (a .gates) ++ signalNumbers a ++ partNumbers length a
     ++ grossNumbers (a .reading) ++ dayNumbers (closedBook (a .closed)) ++ valueNumbers a
 
--- "with every output of the tick at fixed places": bytes past the 64th stay
+-- bytes past the 64th stay
 unfoldable pub answerBuffer : ℕ → ℕ → Answer → List ℕ → List ℕ
 answerBuffer n length a buffer = putAll answerRows (answerNumbers n length a) buffer

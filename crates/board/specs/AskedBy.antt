@@ -35,7 +35,7 @@ pointsOf points = record {
   near = getD points 6 0;
 }
 
--- "one that is no request answers 13 and the tick runs as if it had none"
+-- one that is no request answers 13, and the tick runs as one that is asked nothing
 unfoldable pub requestBy : ℕ → List ℕ → Request
 requestBy n points =
     cond (eqb n 1) request.Zero

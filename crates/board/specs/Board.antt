@@ -57,7 +57,7 @@ openAnswer l n = callRefusal (givenIn l .refusal) (lengthRefusal n) (givenBy l)
 unfoldable pub openImage : List ℕ → List ℕ → List ℕ
 openImage l t = unless (openAnswer l (length t)) (imageOf openState) t
 
--- ---- tick: "An answer buffer that is too short is 14, tested after 20, 21 and 10, nothing done."
+-- ---- tick: an answer buffer that is too short is 14, tested after 20, 21 and 10, and nothing is done
 abbrev pub ifRoom : {A : Type 0} → List ℕ → A → A → A
 ifRoom answer done kept = cond (leb answerLength (length answer)) done kept
 

@@ -1,5 +1,5 @@
--- Demand 3 for images: "its history is that which led to the image". A statement on any calls after an opening, proved in proofs/;
--- `every_call` has it as its `ensures`.
+-- Demand 3 for images: "its history is that which led to the image". Statements on any calls, proved in proofs/; `every_call` has them as its
+-- `ensures`.
 use Prim.Native.Nat.{ℕ}
 use mathlib.Core.Path.{_≡_}
 use mathlib.Core.Bool.{Bool, cond}
@@ -15,12 +15,15 @@ use Rattle.types.specs.declared.machine.Input.{Input}
 use Rattle.settings.specs.Held.{Held}
 use Rattle.outline.specs.Limits.{blockLimit}
 use Rattle.outline.specs.Settings.{openOf}
+use Rattle.outline.specs.Replies.{lineTickOf}
 use Rattle.outline.specs.Run.{History, start, runOf, runFrom, thenAll, blockInputs, lineInput}
 use Rattle.images.specs.StateImage.{stateLength, imageOf}
 use Rattle.images.specs.GivenImage.{givenImage}
+use Rattle.board.specs.AnswerImage.{lengthByte}
 use Rattle.board.specs.Board.{settingsBy, stateBy, refusalBy, openImage, ifRoom, inputBy, tickImage, lineImage, blockImage}
 
--- a call, with its counts, contact and buffers
+-- a call: a tick has its count, contact, request, points and answer buffer; a line its count, contact, receive, reply and answer buffer; a block its
+-- counts and contact
 pub data Call : Type 0 where
   tick : ℤ → Bool → ℕ → List ℕ → List ℕ → Call
   line : ℤ → Bool → List ℕ → List ℕ → List ℕ → Call
@@ -51,11 +54,25 @@ unfoldable pub historyOf : Settings → History Input → List Call → History 
 historyOf s h [] = h
 historyOf s h (c ∷ cs) = historyOf s (thenAll h (ticksOf s (runOf s h) c)) cs
 
--- ---- from every image that is not refused, whoever wrote it: calls leave the image of the state after their ticks
-abbrev pub CallsAreTicks : Type 0
-CallsAreTicks = (l t : List ℕ) → refusalBy l t ≡ 0 → (cs : List Call) → imageRun l t cs ≡ imageOf (stateRun (settingsBy l) (stateBy l t) cs)
+-- ---- from every image that is not refused, whoever wrote it: calls leave the image of the state after their ticks, which is not refused either
+pub record Called (l t : List ℕ) (cs : List Call) : Type 0 where
+  pub image : imageRun l t cs ≡ imageOf (stateRun (settingsBy l) (stateBy l t) cs)
+  pub passes : refusalBy l (imageRun l t cs) ≡ 0
 
--- ---- 3. an open and any calls after it leave the image of the run's state, whose history is their ticks
+abbrev pub CallsAreTicks : Type 0
+CallsAreTicks = (l t : List ℕ) → refusalBy l t ≡ 0 → (cs : List Call) → Called l t cs
+
+-- ---- 3. an open leaves the image of the run that begins, and calls after it that of the run's state, whose history is their ticks
+abbrev pub OpensARun : Type 0
+OpensARun = (g : Given) (s : Settings) → Held g → openOf g ≡ opening.Accepted s → (t : List ℕ) → length t ≡ stateLength
+    → openImage (givenImage g) t ≡ imageOf (runOf s start)
+
+-- from the image of any history on: "Putting an older one back goes back to its history"
 abbrev pub CallsAreRuns : Type 0
-CallsAreRuns = (g : Given) (s : Settings) → Held g → openOf g ≡ opening.Accepted s → (t : List ℕ) → length t ≡ stateLength → (cs : List Call)
-    → imageRun (givenImage g) (openImage (givenImage g) t) cs ≡ imageOf (runOf s (historyOf s start cs))
+CallsAreRuns = (g : Given) (s : Settings) → Held g → openOf g ≡ opening.Accepted s → (h : History Input) (cs : List Call)
+    → imageRun (givenImage g) (imageOf (runOf s h)) cs ≡ imageOf (runOf s (historyOf s h cs))
+
+-- ---- the byte for a reply's length holds all of it
+abbrev pub LengthTold : Type 0
+LengthTold = (s : Settings) (st : State) (count : ℤ) (contact : Bool) (receive reply : List ℕ)
+    → lengthByte (lineTickOf s st count contact receive reply .length) ≡ lineTickOf s st count contact receive reply .length

@@ -9,7 +9,7 @@ ghost use Rattle.outline.specs.Replies.{lineTickOf, replyBuffer};
 ghost use Rattle.images.specs.GivenImage.{givenIn};
 ghost use Rattle.images.specs.Images.{stateIn, written};
 ghost use Rattle.board.specs.AnswerImage.{answerBuffer};
-ghost use Rattle.board.specs.Owed.{CallsAreTicks, CallsAreRuns};
+ghost use Rattle.board.specs.Owed.{CallsAreTicks, OpensARun, CallsAreRuns, LengthTold};
 ghost use Rattle.board.specs.Board.{imagesRefusal, givenBy, stateBy, lengthRefusal, openAnswer, openImage, ifRoom, toldOf, tickAnswer, tickImage, tickBuffer, lineAnswer, lineImage, lineReply, lineBuffer, blockAnswer, blockImage};
 use answer::put_answer;
 use asked::is_request;
@@ -281,5 +281,7 @@ pub extern "C" fn pressgully_block(
 // Demand 3 for images. It does nothing: it stands here so that the check's list names the statements, and misses them if a proof goes.
 pub fn every_call()
     ensures ticks { λ r. ⌜ CallsAreTicks ⌝ }
+    ensures opens { λ r. ⌜ OpensARun ⌝ }
     ensures runs { λ r. ⌜ CallsAreRuns ⌝ }
+    ensures length { λ r. ⌜ LengthTold ⌝ }
 {}

@@ -6,3 +6,4 @@ pub mod GivenTrip
 pub mod Decided
 pub mod Bounds
 pub mod FromImages
+pub mod Figures

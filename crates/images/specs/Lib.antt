@@ -3,3 +3,4 @@ pub mod GivenImage
 pub mod Possible
 pub mod Images
 pub mod Owed
+pub mod Figures

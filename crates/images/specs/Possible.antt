@@ -1,5 +1,5 @@
--- What gives 21: the ranges of a state's fields (outline's Ranges, reading D112) and the balance of its day, as one Boolean under settings.
--- Stages, errors and judgements are told by their numbers.
+-- What a state can be: the ranges of its fields (outline's Ranges, reading D112) and the balance of its day, as one Boolean under settings. A state
+-- that is not possible gives 21. Stages, errors and judgements are told by their numbers.
 use Prim.Native.Nat.{ℕ, _+_, _*_, _/_, max}
 use mathlib.Core.Bool.{Bool, true, false, cond, not, _&&_, _||_}
 use lib.Dec.{eqb, ltb, leb}
@@ -34,7 +34,7 @@ blankBook b =
 
 -- "opening + refilled - used - unbooked is the last good raw"
 abbrev pub balances : Book → Bool
-balances b = eqZ (b .opening +ℤ b .refilled -ℤ b .used -ℤ b .unbooked) (b .last)
+balances b = eqZ (((b .opening +ℤ b .refilled) -ℤ b .used) -ℤ b .unbooked) (b .last)
 
 unfoldable pub bookPossible : Book → Bool
 bookPossible b =
@@ -53,8 +53,8 @@ stabilityPossible rule q = leb (q .run) (rule .time) && (q .good || eqb (q .run)
 -- q is 0; the tare 0..C·d; tracking that is off neither counts nor moves
 unfoldable pub weighingPossible : Range → Tracking → Weighing → Bool
 weighingPossible r t w =
-    leb (natAbs (w .zero)) (r .capacity * r .zeroing / 10)
-    && leb (natAbs (w .zero -ℤ w .tracked)) (r .capacity * r .zeroing / 10)
+    leb (natAbs (w .zero)) ((r .capacity * r .zeroing) / 10)
+    && leb (natAbs (w .zero -ℤ w .tracked)) ((r .capacity * r .zeroing) / 10)
     && leb (natAbs (w .tracked)) (t .allowance)
     && ltb (w .counter) (max (t .time) 1)
     && leZ (pos 0) (w .tare)
@@ -98,7 +98,7 @@ abbrev pub sequencePossible : Batching → Sequence → Bool
 sequencePossible b q =
     sequenceFits b (stageNumber (q .stage)) (stageTimer (q .stage)) (q .clock) (errorNumber (q .error)) (judgementNumber (q .judgement))
 
--- ---- totals: what can be taken back was booked, so there is a batch at least as heavy
+-- ---- totals: what can be taken back was booked, so the total is at least its weight, and the count at least 1
 unfoldable pub totalsPossible : Totals → Bool
 totalsPossible t =
     leb (t .total) totalLimit && leb (t .count) batchLimit && leb (backWeight (t .back)) (t .total) && leb (backTag (t .back)) (t .count)
@@ -111,10 +111,11 @@ flowPossible m p n =
     && (not (eqb n 4 || eqb n 5) || not (noLargeFlow m p))
     && (not (eqb n 6 || eqb n 7) || not (eqb (p .preliminary) 0))
 
--- a last tick that was good has been; a batch or a discharge goes on from a good tick, and the tracking counter too, in stage 00
+-- where the last tick was good, there has been a good one; a batch or a discharge goes on after a good tick alone; the tracking counter is 0 but in
+-- stage 00 after a good tick
 unfoldable pub togetherFits : Mode → Setpoints → ℕ → Bool → Bool → ℕ → Bool
 togetherFits m p n good begun counter =
-    (not good || begun) && (eqb n 0 || good) && (eqb n 0 && good || eqb counter 0) && flowPossible m p n
+    (not good || begun) && (eqb n 0 || good) && ((eqb n 0 && good) || eqb counter 0) && flowPossible m p n
 
 abbrev pub togetherPossible : Settings → State → Bool
 togetherPossible s st =

@@ -39,7 +39,7 @@ displayNumber display.Net = 1
 unfoldable pub displayOf : ℕ → Display
 displayOf n = cond (eqb n 1) display.Net display.Gross
 
--- a stage by the outline's number, with the ticks that a timed one has lasted
+-- a stage by the outline's number; t is the timer of a timed one
 unfoldable pub stageOf : ℕ → ℕ → Stage
 stageOf n t =
     cond (eqb n 3) (stage.StartDelay t)
@@ -55,7 +55,7 @@ stageOf n t =
     (cond (eqb n 15) stage.Discharge
     (cond (eqb n 16) (stage.DischargeEnd t) stage.Idle)))))))))))
 
--- "unused timers .. 0" (D113)
+-- a timer without use is 0 (D113)
 unfoldable pub stageTimer : Stage → ℕ
 stageTimer stage.Idle = 0
 stageTimer (stage.StartDelay t) = t
@@ -85,7 +85,7 @@ errorOf n =
 unfoldable pub judgementOf : ℕ → Judgement
 judgementOf n = cond (eqb n 1) judgement.Ok (cond (eqb n 2) judgement.Over (cond (eqb n 3) judgement.Under judgement.None))
 
--- whether a batch can be taken back, and its weight; "the undo's value" is 0 where there is none (D113)
+-- whether a batch can be taken back, and its weight, which is 0 where there is none (D113)
 unfoldable pub backTag : Batch → ℕ
 backTag batch.Nothing = 0
 backTag (batch.Weight v) = 1

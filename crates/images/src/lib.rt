@@ -1,5 +1,6 @@
 // Images: a state in 256 bytes and settings in 128, as docs/IMAGES.md fixes them. An image is read whole and judged, or a state is written;
 // nothing is kept here.
+ghost use Rattle.images.specs.Figures.{Imaged, Judged};
 ghost use Rattle.images.specs.Owed.{ReadBack, OneImage, UnusedZero, GivenBack, OneGiven, UnusedGiven, Decides, RunsPass, FromImages};
 
 pub mod given;
@@ -8,8 +9,11 @@ mod parts;
 mod possible;
 pub mod state;
 
-// What images owe. It does nothing: it stands here so that the check's list names the statements, and misses them if a proof goes.
+// Figures of images and what images owe. It does nothing: it stands here so that the check's list names the statements, and misses them if a
+// proof goes.
 pub fn every_image()
+    ensures imaged { λ r. ⌜ Imaged ⌝ }
+    ensures judged { λ r. ⌜ Judged ⌝ }
     ensures read_back { λ r. ⌜ ReadBack ⌝ }
     ensures one_image { λ r. ⌜ OneImage ⌝ }
     ensures unused_zero { λ r. ⌜ UnusedZero ⌝ }

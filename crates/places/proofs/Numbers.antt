@@ -11,8 +11,8 @@ use lib.Arith.{digits-div, digits-mod, mod-mul}
 use lib.Dec.{T, eqb}
 use lib.IntN.{ℤ, pos, negsuc, natAbs, _-ℤ_}
 use lib.Signed.{mag, ltZ, nonNeg}
-use lib.ListN.{length, getD, set, replicate, length-set}
-use lib.Seq.{getD-set-same, getD-set-other, set-getD}
+use lib.ListN.{length, getD, set, take, replicate, length-set}
+use lib.Seq.{getD-set-same, getD-set-other, set-getD, take-length}
 use borrow.Author.Tests.{le-ltb, ltb-true, eqb-true, eq-eqb}
 use mir.Syntax.{Width}
 use mir.Val.{SFits, Fits, bits, hbits, sel}
@@ -154,13 +154,36 @@ unfolding sameBytes
 same-self [] = refl
 same-self (x ∷ xs) = ap (λ (t : Bool). t && sameBytes xs xs) (eq-eqb x x refl) ∙ same-self xs
 
-pub same-is : (r : Bool) (a b : List ℕ) → (r ≡ true → a ≡ b) → (a ≡ b → r ≡ true) → r ≡ sameBytes a b
-same-is r a b f g = go (sameBytes a b) refl r f g
+-- slices of two lengths are not the same
+pub same-lengths : (a b : List ℕ) → (length a ≡ length b → ⊥) → false ≡ sameBytes a b
+unfolding sameBytes
+same-lengths [] [] n = absurd (n refl)
+same-lengths [] (y ∷ ys) n = refl
+same-lengths (x ∷ xs) [] n = refl
+same-lengths (x ∷ xs) (y ∷ ys) n = go (eqb x y) (same-lengths xs ys (λ e. n (ap suc e)))
   where
-    go : (t : Bool) → sameBytes a b ≡ t → (r : Bool) → (r ≡ true → a ≡ b) → (a ≡ b → r ≡ true) → r ≡ sameBytes a b
-    go t e true f g = sym (subst (λ (x : List ℕ). sameBytes a x ≡ true) (f refl) (same-self a))
-    go true e false f g = g (same-yes a b e) ∙ sym e
-    go false e false f g = sym e
+    go : (t : Bool) → false ≡ sameBytes xs ys → false ≡ t && sameBytes xs ys
+    go true e = e
+    go false e = refl
+
+-- the first i bytes, and one more
+pub same-more : (a b : List ℕ) (i : ℕ) → i < length a → i < length b → sameBytes (take i a) (take i b) && eqb (getD a i 0) (getD b i 0) ≡ sameBytes (take (suc i) a) (take (suc i) b)
+unfolding sameBytes
+same-more [] b i h k = absurd (omega arith)
+same-more (x ∷ a) [] i h k = absurd (omega arith)
+same-more (x ∷ a) (y ∷ b) zero h k = go (eqb x y)
+  where
+    go : (t : Bool) → t ≡ t && true
+    go true = refl
+    go false = refl
+same-more (x ∷ a) (y ∷ b) (suc i) h k = go (eqb x y) _ _ _ (same-more a b i (omega arith) (omega arith))
+  where
+    go : (t p q r : Bool) → p && q ≡ r → t && p && q ≡ t && r
+    go true p q r e = e
+    go false p q r e = refl
+
+pub same-first : (a b : List ℕ) (i : ℕ) → i ≡ length a → length a ≡ length b → sameBytes (take i a) (take i b) ≡ sameBytes a b
+same-first a b i e f = λ k. sameBytes ((ap (λ (n : ℕ). take n a) e ∙ take-length a) k) ((ap (λ (n : ℕ). take n b) (e ∙ f) ∙ take-length b) k)
 
 -- ---- zeros behind the bytes change nothing that is read
 pub pad-get : (l : List ℕ) (n i : ℕ) → getD (l ++ replicate n 0) i 0 ≡ getD l i 0
