@@ -20,7 +20,7 @@ use Rattle.images.proofs.Tables.{table, fit-all}
 
 -- ---- settings from their image
 module _ (g : Given) (h : Held g) where
-  numbers-fit : Numbers givenRows (givenNumbers g)
+  pub numbers-fit : Numbers givenRows (givenNumbers g)
   numbers-fit =
       fit-all (
       table countRows (countNumbers g) (coded-lt (h .zero), (coded-lt (h .span), (coded-lt (h .capacity), (coded-lt (h .weight), (coded-lt (h .division), (coded-lt (h .zeroing), tt))))))

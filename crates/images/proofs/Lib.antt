@@ -3,6 +3,7 @@ pub mod NameLaws
 pub mod Tables
 pub mod Trip
 pub mod GivenTrip
+pub mod Read
 pub mod Decided
 pub mod Bounds
 pub mod FromImages

@@ -87,7 +87,7 @@ totals-fit t h = (h .total, (h .count, (back-lt (t .back), (h .weight, tt))))
 
 -- ---- a state from its image
 module _ (st : State) (h : HeldState st) where
-  numbers-fit : Numbers stateRows (stateNumbers st)
+  pub numbers-fit : Numbers stateRows (stateNumbers st)
   numbers-fit =
       fit-all (
       table bookRows (bookNumbers (st .book)) (book-fits (st .book) (h .book))

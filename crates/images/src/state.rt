@@ -1,9 +1,17 @@
 // The state image: read under settings as they are given, and written.
 ghost use mathlib.Core.Path.{_≡_};
-ghost use Rattle.images.specs.StateImage.{putState, stateAt};
+ghost use lib.Dec.{leb};
+ghost use Rattle.places.specs.Places.{sameBytes, getAll, gaps, zerosIn};
+ghost use Rattle.images.specs.StateImage.{stateLength, stateRows, stateNumbers, putState, stateAt};
 ghost use Rattle.images.specs.Images.{stateRefusal, stateIn, written};
+use crate::names::back_tag;
+use crate::names::back_weight;
+use crate::names::stage_timer;
 use crate::parts;
 use crate::possible::is_possible;
+use numbers::error_number;
+use numbers::judgement_number;
+use numbers::stage_number;
 use types::machine::State;
 use types::settings::Given;
 
@@ -50,7 +58,52 @@ fn put_state(s: &mut [u8], st: State)
     parts::put_totals(s, st.totals);
 }
 
+// 0 or 1: no, or yes.
+fn is_flag(n: u8) -> bool
+    ensures { λ r. ⌜ r ≡ leb n 1 ⌝ }
+{
+    n <= 1
+}
+
+// Whether the state that was read has the numbers at its places again: a flag is 0 or 1, a name's number names it, and a value without use
+// is 0. Every other number is read as it stands.
+fn is_read_whole(s: &[u8], st: State) -> bool
+    requires { ⌜ st ≡ stateAt (now s) ⌝ }
+    ensures { λ r. ⌜ r ≡ sameBytes (stateNumbers st) (getAll stateRows (now (s .entry))) ⌝ }
+{
+    let q = st.sequence;
+    let t = st.totals;
+    let stage = q.stage;
+    let error = q.error;
+    let judgement = q.judgement;
+    let back = t.back;
+    is_flag(places::u8_at(s, 36))
+        & is_flag(places::u8_at(s, 37))
+        & is_flag(places::u8_at(s, 40))
+        & is_flag(places::u8_at(s, 58))
+        & (stage_number(stage) == places::u8_at(s, 88))
+        & (stage_timer(stage) == places::u16_at(s, 90))
+        & (error_number(error) == places::u8_at(s, 94))
+        & (judgement_number(judgement) == places::u8_at(s, 95))
+        & (back_tag(back) == places::u8_at(s, 108))
+        & (back_weight(back) == places::u64_at(s, 112))
+}
+
+// The bytes that stand in no place are 0.
+fn is_unused_zero(s: &[u8]) -> bool
+    ensures { λ r. ⌜ r ≡ zerosIn (gaps 0 stateLength stateRows) (now (s .entry)) ⌝ }
+{
+    places::are_zero(s, 38, 2)
+        & places::are_zero(s, 41, 1)
+        & places::are_zero(s, 59, 1)
+        & places::are_zero(s, 89, 1)
+        & places::are_zero(s, 109, 3)
+        & places::are_zero(s, 120, 136)
+}
+
+// A second image, with the state written again, would be compared here: what it could show is asked of the bytes themselves.
 fn state_refusal(g: Given, s: &[u8], st: State) -> u8
+    requires { ⌜ st ≡ stateAt (now s) ⌝ }
     ensures { λ r. ⌜ r ≡ stateRefusal g (now (s .entry)) st ⌝ }
 {
     if s.len() != STATE_LENGTH {
@@ -59,9 +112,10 @@ fn state_refusal(g: Given, s: &[u8], st: State) -> u8
     if !is_possible(g, st) {
         return 21;
     }
-    let mut again = [0u8; STATE_LENGTH];
-    put_state(&mut again, st);
-    if !places::same(&again, s) {
+    if !is_read_whole(s, st) {
+        return 21;
+    }
+    if !is_unused_zero(s) {
         return 21;
     }
     0

@@ -14,14 +14,14 @@ use lib.Seq.{getD-set-other}
 use Rattle.places.specs.Places.{beAt, putBe, Place, getAll, putAll, tidy, unused, Numbers}
 use Rattle.places.proofs.Numbers.{be-set, put-length, read-put, put-read}
 
-or-l : (a b : Bool) → T a → T (a || b)
+pub or-l : (a b : Bool) → T a → T (a || b)
 or-l true b t = tt
 
-or-r : (a b : Bool) → T b → T (a || b)
+pub or-r : (a b : Bool) → T b → T (a || b)
 or-r true b t = tt
 or-r false b t = t
 
-apart : (at n i : ℕ) → T (ltb i at || leb (at + n) i) → (i < at) ⊎ (at + n ≤ i)
+pub apart : (at n i : ℕ) → T (ltb i at || leb (at + n) i) → (i < at) ⊎ (at + n ≤ i)
 apart at n i h = go (ltb i at) (ltb→lt i at) h
   where
     go : (t : Bool) → (T t → i < at) → T (t || leb (at + n) i) → (i < at) ⊎ (at + n ≤ i)
@@ -74,7 +74,7 @@ put-all-length (p ∷ ps) [] l = refl
 put-all-length (p ∷ ps) (v ∷ vs) l = put-all-length ps vs (putBe (p .bytes) v l (p .at)) ∙ put-length (p .bytes) v l (p .at)
 
 -- a byte before a number, or past it, stays
-put-beside : (n v : ℕ) (l : List ℕ) (at i : ℕ) → T (ltb i at || leb (at + n) i) → getD (putBe n v l at) i 0 ≡ getD l i 0
+pub put-beside : (n v : ℕ) (l : List ℕ) (at i : ℕ) → T (ltb i at || leb (at + n) i) → getD (putBe n v l at) i 0 ≡ getD l i 0
 unfolding putBe
 put-beside zero v l at i h = refl
 put-beside (suc n) v l at i h =

@@ -16,7 +16,7 @@ use lib.Seq.{getD-set-same, getD-set-other, set-getD, take-length}
 use borrow.Author.Tests.{le-ltb, ltb-true, eqb-true, eq-eqb}
 use mir.Syntax.{Width}
 use mir.Val.{SFits, Fits, bits, hbits, sel}
-use mir.ValLaws.{toZ-ofZ, ofZ-fits, toZ-fits}
+use mir.ValLaws.{toZ-ofZ, ofZ-toZ, ofZ-fits, toZ-fits}
 use Rattle.places.specs.Places.{beAt, putBe, signed, coded, sameBytes}
 
 pow-pos256 : (n : ℕ) → 0 < 256 ^ n
@@ -106,6 +106,10 @@ pub signed-coded : (w : Width) (z : ℤ) → SFits w z → signed w (coded w z) 
 unfolding signed coded
 signed-coded w z f = toZ-ofZ w z f
 
+pub coded-signed : (w : Width) {n : ℕ} → n < 2 ^ bits w → coded w (signed w n) ≡ n
+unfolding signed coded
+coded-signed w {n} h = ofZ-toZ w n (record { fits = h })
+
 pub signed-fits : (w : Width) {n : ℕ} → n < 2 ^ bits w → SFits w (signed w n)
 unfolding signed
 signed-fits w {n} h = toZ-fits w n (record { fits = h })
@@ -153,37 +157,6 @@ pub same-self : (a : List ℕ) → sameBytes a a ≡ true
 unfolding sameBytes
 same-self [] = refl
 same-self (x ∷ xs) = ap (λ (t : Bool). t && sameBytes xs xs) (eq-eqb x x refl) ∙ same-self xs
-
--- slices of two lengths are not the same
-pub same-lengths : (a b : List ℕ) → (length a ≡ length b → ⊥) → false ≡ sameBytes a b
-unfolding sameBytes
-same-lengths [] [] n = absurd (n refl)
-same-lengths [] (y ∷ ys) n = refl
-same-lengths (x ∷ xs) [] n = refl
-same-lengths (x ∷ xs) (y ∷ ys) n = go (eqb x y) (same-lengths xs ys (λ e. n (ap suc e)))
-  where
-    go : (t : Bool) → false ≡ sameBytes xs ys → false ≡ t && sameBytes xs ys
-    go true e = e
-    go false e = refl
-
--- the first i bytes, and one more
-pub same-more : (a b : List ℕ) (i : ℕ) → i < length a → i < length b → sameBytes (take i a) (take i b) && eqb (getD a i 0) (getD b i 0) ≡ sameBytes (take (suc i) a) (take (suc i) b)
-unfolding sameBytes
-same-more [] b i h k = absurd (omega arith)
-same-more (x ∷ a) [] i h k = absurd (omega arith)
-same-more (x ∷ a) (y ∷ b) zero h k = go (eqb x y)
-  where
-    go : (t : Bool) → t ≡ t && true
-    go true = refl
-    go false = refl
-same-more (x ∷ a) (y ∷ b) (suc i) h k = go (eqb x y) _ _ _ (same-more a b i (omega arith) (omega arith))
-  where
-    go : (t p q r : Bool) → p && q ≡ r → t && p && q ≡ t && r
-    go true p q r e = e
-    go false p q r e = refl
-
-pub same-first : (a b : List ℕ) (i : ℕ) → i ≡ length a → length a ≡ length b → sameBytes (take i a) (take i b) ≡ sameBytes a b
-same-first a b i e f = λ k. sameBytes ((ap (λ (n : ℕ). take n a) e ∙ take-length a) k) ((ap (λ (n : ℕ). take n b) (e ∙ f) ∙ take-length b) k)
 
 -- ---- zeros behind the bytes change nothing that is read
 pub pad-get : (l : List ℕ) (n i : ℕ) → getD (l ++ replicate n 0) i 0 ≡ getD l i 0

@@ -1,5 +1,5 @@
 -- Numbers at a place of a buffer: n bytes from `at`, the highest first. A byte past the end reads as 0, and is not written.
-use Prim.Native.Nat.{ℕ, zero, suc, _+_, _*_, _/_, _%_, _^_, _<_}
+use Prim.Native.Nat.{ℕ, zero, suc, _+_, _-_, _*_, _/_, _%_, _^_, _<_}
 use mathlib.Core.List.{List, [], _∷_}
 use mathlib.Core.Bool.{Bool, true, false, cond, _&&_, _||_}
 use lib.Dec.{eqb, ltb, leb}
@@ -30,7 +30,11 @@ flagOf n = eqb n 1
 unfoldable pub flagTag : Bool → ℕ
 flagTag b = cond b 1 0
 
--- the same bytes
+-- what a slice of bytes holds: each is below 256, and past the end it reads as 0
+abbrev pub Bytes : List ℕ → Type 0
+Bytes l = (i : ℕ) → getD l i 0 < 256
+
+-- the same bytes, and the same numbers
 unfoldable pub sameBytes : List ℕ → List ℕ → Bool
 sameBytes [] [] = true
 sameBytes [] (y ∷ ys) = false
@@ -63,6 +67,20 @@ tidy from n (p ∷ ps) = leb from (p .at) && tidy (p .at + p .bytes) n ps
 abbrev pub unused : List Place → ℕ → Bool
 unused [] i = true
 unused (p ∷ ps) i = (ltb i (p .at) || leb (p .at + p .bytes) i) && unused ps i
+
+-- none of the n bytes from `at` on is other than 0; past the end there is none
+unfoldable pub zerosAt : ℕ → ℕ → List ℕ → Bool
+zerosAt zero at l = true
+zerosAt (suc n) at l = zerosAt n at l && eqb (getD l (at + n) 0) 0
+
+-- the bytes of a tidy layout that stand in none of its places: before each place, from the end of the one before, and behind the last
+abbrev pub gaps : ℕ → ℕ → List Place → List Place
+gaps from n [] = row from (n - from) ∷ []
+gaps from n (p ∷ ps) = row from (p .at - from) ∷ gaps (p .at + p .bytes) n ps
+
+abbrev pub zerosIn : List Place → List ℕ → Bool
+zerosIn [] l = true
+zerosIn (p ∷ ps) l = zerosAt (p .bytes) (p .at) l && zerosIn ps l
 
 -- a number for each place, that fits it
 abbrev pub Numbers : List Place → List ℕ → Type 0

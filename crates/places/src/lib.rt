@@ -3,7 +3,7 @@
 ghost use mathlib.Core.Path.{_≡_};
 ghost use lib.ListN.{length, getD, set, replicate};
 ghost use mir.Syntax.{w32, w64};
-ghost use Rattle.places.specs.Places.{beAt, putBe, signed, coded, flagOf, flagTag, sameBytes};
+ghost use Rattle.places.specs.Places.{beAt, putBe, signed, coded, flagOf, flagTag, zerosAt};
 
 // The byte at `at`, or 0 past the end.
 fn byte_at(s: &[u8], at: usize) -> u8
@@ -194,16 +194,15 @@ pub fn clear(s: &mut [u8])
     }
 }
 
-// Whether a and b hold the same bytes. Every byte is looked at, so that the compiler can compare many at once.
-pub fn same(a: &[u8], b: &[u8]) -> bool
-    ensures { λ r. ⌜ r ≡ sameBytes (now (a .entry)) (now (b .entry)) ⌝ }
+// Whether the n bytes from `at` on are 0. Every one is looked at, so that the compiler can compare many at once.
+pub fn are_zero(s: &[u8], at: u16, n: u16) -> bool
+    ensures { λ r. ⌜ r ≡ zerosAt n at (now (s .entry)) ⌝ }
 {
-    if a.len() != b.len() {
-        return false;
+    let a = at as usize;
+    let end = n as usize;
+    let mut zero = true;
+    for i in 0..end {
+        zero = zero & (byte_at(s, a + i) == 0);
     }
-    let mut equal = true;
-    for i in 0..a.len() {
-        equal = equal & (a[i] == b[i]);
-    }
-    equal
+    zero
 }

@@ -1,7 +1,6 @@
 -- The settings at the places, and what they are refused with.
-use mathlib.Core.Path.{_∙_}
 use borrow.Author.Needs.{needs}
-use Rattle.images.specs.GivenImage.{givenRefusal, givenIn}
+use Rattle.images.specs.GivenImage.{givenIn}
 use Rattle.images.proofs.given.read_given.Statement.{statement}
 use Rattle.images.proofs.given.read_given.Tie as tie
 
@@ -14,9 +13,8 @@ given-refusal-requires c κs = search needs
 returns : tie.Need-returns
 unfolding givenIn
 returns c =
-    let l = c .before .before .before .args .s .now in
     let g = c .before .given-at .ensures in
-    λ i. record { refusal = (c .given-refusal .ensures ∙ (λ k. givenRefusal l (g k))) i; given = g i }
+    λ i. record { refusal = c .given-refusal .ensures i; given = g i }
 
 pub read-given-spec : {M : Type 1} → statement M
 read-given-spec = tie.close (tie.spec given-at-requires given-refusal-requires returns)

@@ -1,13 +1,14 @@
--- By the length, then the ranges, then the bytes that the state gives again.
+-- By the length, then the ranges, then the numbers at the places and the bytes beside them: the last two are the comparison with an image.
 use mathlib.Core.Path.{_≡_, sym, _∙_}
-use mathlib.Core.Bool.{true}
+use mathlib.Core.Bool.{Bool, true, false, _&&_}
 use borrow.Author.Tests.{not-true, not-false}
 use borrow.Author.Needs.{needs}
-use Rattle.places.specs.Places.{sameBytes}
+use Rattle.places.specs.Places.{getAll, sameBytes, gaps, zerosIn}
 use Rattle.outline.specs.Settings.{settingsOf}
-use Rattle.images.specs.StateImage.{imageOf}
+use Rattle.images.specs.StateImage.{stateLength, stateRows, stateNumbers, imageOf}
 use Rattle.images.specs.Possible.{possible}
 use Rattle.images.proofs.Tests.{of-length, of-range, of-bytes, of-image}
+use Rattle.images.proofs.Read.{state-again}
 use Rattle.images.proofs.state.state_refusal.Statement.{statement}
 use Rattle.images.proofs.state.state_refusal.Tie as tie
 
@@ -16,12 +17,13 @@ was-possible : (c : tie.Else2) →
     possible (settingsOf (a .g)) (a .st) ≡ true
 was-possible c = sym (c .before .is-possible .ensures) ∙ not-false _ (c .if2 .left)
 
--- the array holds the image of what was read
-again-is : (c : tie.After-same) →
-    let a = c .before .before .before .before .before .before .before .before .before .args in
-    c .same .result ≡ sameBytes (imageOf (a .st)) (a .s .now)
-unfolding imageOf
-again-is c = c .same .ensures ∙ (λ i. sameBytes (c .before .before .before .put-state .ensures i) (c .before .before .before .before .before .before .before .before .before .args .s .now))
+-- what a second image would show
+same : (c : tie.Else2) →
+    let a = c .before .before .before .before .args in
+    sameBytes (imageOf (a .st)) (a .s .now) ≡ sameBytes (stateNumbers (a .st)) (getAll stateRows (a .s .now)) && zerosIn (gaps 0 stateLength stateRows) (a .s .now)
+same c =
+    let start = c .before .before .before .before in
+    state-again (start .args .s .now) (λ i. c .before .before .before .shared-slice-known .given i .fits) (c .before .before .if1 .left) (start .args .st) (start .pre)
 
 returns : tie.Need-returns
 returns c = of-length _ _ _ (c .if1 .taken)
@@ -32,23 +34,38 @@ is-possible-requires c κs = search needs
 returns-2 : tie.Need-returns-2
 returns-2 c = of-range _ _ _ (c .before .before .if1 .left) (sym (c .before .is-possible .ensures) ∙ not-true _ (c .if2 .taken))
 
-slice-aggregate-put-state : tie.Need-slice-aggregate-put-state
-slice-aggregate-put-state c = search needs
-
-put-state-requires : tie.Need-put-state-requires
-put-state-requires c κs = search needs
-
-slice-aggregate-same : tie.Need-slice-aggregate-same
-slice-aggregate-same c = search needs
-
-same-requires : tie.Need-same-requires
-same-requires c κs = search needs
+is-read-whole-requires : tie.Need-is-read-whole-requires
+is-read-whole-requires c κs = search needs
 
 returns-3 : tie.Need-returns-3
-returns-3 c = of-bytes _ _ _ (c .before .before .before .before .before .before .before .before .if1 .left) (was-possible (c .before .before .before .before .before .before)) (sym (again-is (c .before)) ∙ not-true _ (c .if3 .taken))
+returns-3 c =
+    let e = c .before .before in
+    let a = e .before .before .before .before .args in
+    of-bytes _ _ _ (e .before .before .if1 .left) (was-possible e) (
+    same e
+    ∙ (λ i. (sym (c .before .is-read-whole .ensures) ∙ not-true _ (c .if3 .taken)) i && zerosIn (gaps 0 stateLength stateRows) (a .s .now))
+    )
+
+is-unused-zero-requires : tie.Need-is-unused-zero-requires
+is-unused-zero-requires c κs = search needs
 
 returns-4 : tie.Need-returns-4
-returns-4 c = of-image _ _ _ (c .before .before .before .before .before .before .before .before .if1 .left) (was-possible (c .before .before .before .before .before .before)) (sym (again-is (c .before)) ∙ not-false _ (c .if3 .left))
+returns-4 c =
+    let w = c .before .before in
+    let e = w .before .before in
+    of-bytes _ _ _ (e .before .before .if1 .left) (was-possible e) (
+    same e
+    ∙ (λ i. (sym (w .before .is-read-whole .ensures) ∙ not-false _ (w .if3 .left)) i && (sym (c .before .is-unused-zero .ensures) ∙ not-true _ (c .if4 .taken)) i)
+    )
+
+returns-5 : tie.Need-returns-5
+returns-5 c =
+    let w = c .before .before in
+    let e = w .before .before in
+    of-image _ _ _ (e .before .before .if1 .left) (was-possible e) (
+    same e
+    ∙ (λ i. (sym (w .before .is-read-whole .ensures) ∙ not-false _ (w .if3 .left)) i && (sym (c .before .is-unused-zero .ensures) ∙ not-false _ (c .if4 .left)) i)
+    )
 
 pub state-refusal-spec : {M : Type 1} → statement M
 state-refusal-spec =
@@ -57,9 +74,8 @@ state-refusal-spec =
     returns
     is-possible-requires
     returns-2
-    slice-aggregate-put-state
-    put-state-requires
-    slice-aggregate-same
-    same-requires
+    is-read-whole-requires
     returns-3
-    returns-4)
+    is-unused-zero-requires
+    returns-4
+    returns-5)

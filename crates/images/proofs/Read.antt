@@ -1,0 +1,249 @@
+-- What is read from bytes, whatever they are, fits its types; and written again it gives the same bytes where its flags are 0 or 1, its names are
+-- numbered as they stand, what has no use is 0, and so are the bytes that stand in no place. Assumes nothing.
+use Prim.Native.Nat.{ℕ, suc, zero, _^_, _<_}
+use native.Mathlib.Omega.{arith}
+use mathlib.Core.Path.{_≡_, refl, sym, ap, subst, _∙_}
+use mathlib.Core.Bool.{Bool, true, false, cond, _&&_}
+use mathlib.Core.List.{List, [], _∷_}
+use lib.Dec.{eqb, leb}
+use lib.ListN.{length}
+use mir.Syntax.{w32, w64}
+use borrow.Author.Tests.{eq-eqb, ne-eqb, lt-leb}
+use Rattle.places.specs.Places.{beAt, signed, coded, flagOf, flagTag, getAll, sameBytes, zerosAt, gaps, zerosIn, Bytes, Numbers}
+use Rattle.places.proofs.Numbers.{be-lt, coded-signed, signed-fits}
+use Rattle.places.proofs.Again.{again}
+use Rattle.types.specs.declared.weight.Display.the-variants as display
+use Rattle.types.specs.declared.stages.Stage.{Stage}
+use Rattle.types.specs.declared.stages.Stage.the-variants as stage
+use Rattle.types.specs.declared.stages.SequenceError.{SequenceError}
+use Rattle.types.specs.declared.stages.Judgement.{Judgement}
+use Rattle.types.specs.declared.stages.Batch.{Batch}
+use Rattle.types.specs.declared.stages.Batch.the-variants as batch
+use Rattle.types.specs.declared.machine.State.{State}
+use Rattle.outline.specs.Numbers.{stageNumber, errorNumber, judgementNumber}
+use Rattle.settings.specs.Held.{Held}
+use Rattle.images.specs.StateImage.{displayNumber, displayOf, stageOf, stageTimer, backTag, backWeight, backOf, stateLength, stateRows, stateNumbers, putState, imageOf, stateAt}
+use Rattle.images.specs.GivenImage.{givenLength, givenRows, givenNumbers, putGiven, givenImage, givenAt}
+use Rattle.images.proofs.Trip.{HeldState, numbers-fit}
+use Rattle.images.proofs.GivenTrip as given
+
+-- ---- the types hold it
+timer-fits : (x t : ℕ) → t < 2 ^ 16 → stageTimer (stageOf x t) < 2 ^ 16
+unfolding stageOf stageTimer
+timer-fits x t h = go (eqb x 3) (eqb x 4) (eqb x 5) (eqb x 6) (eqb x 7) (eqb x 8) (eqb x 9) (eqb x 10) (eqb x 11) (eqb x 14) (eqb x 15) (eqb x 16)
+  where
+    go : (a b c d e f g i j k m n : Bool) → stageTimer (cond a (stage.StartDelay t) (cond b (stage.LargeDisable t) (cond c stage.LargeFlow (cond d (stage.MediumDisable t) (cond e stage.MediumFlow (cond f (stage.SmallDisable t) (cond g stage.SmallFlow (cond i (stage.JudgeDelay t) (cond j stage.JudgeWait (cond k (stage.DischargeStart t) (cond m stage.Discharge (cond n (stage.DischargeEnd t) stage.Idle)))))))))))) < 2 ^ 16
+    go true b c d e f g i j k m n = h
+    go false true c d e f g i j k m n = h
+    go false false true d e f g i j k m n = omega arith
+    go false false false true e f g i j k m n = h
+    go false false false false true f g i j k m n = omega arith
+    go false false false false false true g i j k m n = h
+    go false false false false false false true i j k m n = omega arith
+    go false false false false false false false true j k m n = h
+    go false false false false false false false false true k m n = omega arith
+    go false false false false false false false false false true m n = h
+    go false false false false false false false false false false true n = omega arith
+    go false false false false false false false false false false false true = h
+    go false false false false false false false false false false false false = omega arith
+
+back-fits : (n v : ℕ) → v < 2 ^ 64 → backWeight (backOf n v) < 2 ^ 64
+unfolding backOf backWeight
+back-fits n v h = go (eqb n 1)
+  where
+    go : (a : Bool) → backWeight (cond a (batch.Weight v) batch.Nothing) < 2 ^ 64
+    go true = h
+    go false = omega arith
+
+pub held-at : (l : List ℕ) → Bytes l → HeldState (stateAt l)
+unfolding stateAt getAll
+held-at l b = record {
+  book = record {
+    opening = signed-fits w32 (be-lt 4 l 0 b);
+    last = signed-fits w32 (be-lt 4 l 4 b);
+    refilled = signed-fits w64 (be-lt 8 l 8 b);
+    used = signed-fits w64 (be-lt 8 l 16 b);
+    unbooked = signed-fits w64 (be-lt 8 l 24 b);
+    ticks = be-lt 4 l 32 b;
+  };
+  run = be-lt 2 l 42 b;
+  weighing = record {
+    zero = signed-fits w32 (be-lt 4 l 44 b);
+    tracked = signed-fits w32 (be-lt 4 l 48 b);
+    tare = signed-fits w32 (be-lt 4 l 52 b);
+    counter = be-lt 2 l 56 b;
+  };
+  setpoints = record {
+    target = be-lt 4 l 60 b;
+    fall = be-lt 4 l 64 b;
+    preliminary = be-lt 4 l 68 b;
+    optional = be-lt 4 l 72 b;
+    over = be-lt 4 l 76 b;
+    under = be-lt 4 l 80 b;
+    near = be-lt 4 l 84 b;
+  };
+  sequence = record { timer = timer-fits (beAt 1 l 88) (beAt 2 l 90) (be-lt 2 l 90 b); clock = be-lt 2 l 92 b };
+  totals = record { total = be-lt 8 l 96 b; count = be-lt 4 l 104 b; weight = back-fits (beAt 1 l 108) (beAt 8 l 112) (be-lt 8 l 112 b) };
+}
+
+-- ---- numbers written again, row by row: the same in any case, or tested
+data Row : Type 0 where
+  same : (x y : ℕ) → x ≡ y → Row
+  test : (x y : ℕ) (t : Bool) → eqb x y ≡ t → Row
+
+abbrev anew : List Row → List ℕ
+anew [] = []
+anew (same x y e ∷ rs) = x ∷ anew rs
+anew (test x y t e ∷ rs) = x ∷ anew rs
+
+abbrev standing : List Row → List ℕ
+standing [] = []
+standing (same x y e ∷ rs) = y ∷ standing rs
+standing (test x y t e ∷ rs) = y ∷ standing rs
+
+abbrev tests : Bool → List Row → Bool
+tests a [] = a
+tests a (same x y e ∷ rs) = tests a rs
+tests a (test x y t e ∷ rs) = tests (a && t) rs
+
+and-true : (a : Bool) → a && true ≡ a
+and-true true = refl
+and-true false = refl
+
+deeper : (a t s : Bool) → a && (t && s) ≡ (a && t) && s
+deeper true t s = refl
+deeper false t s = refl
+
+rows-same : (a : Bool) (rs : List Row) → a && sameBytes (anew rs) (standing rs) ≡ tests a rs
+unfolding sameBytes
+rows-same a [] = and-true a
+rows-same a (same x y e ∷ rs) = ap (λ (t : Bool). a && (t && sameBytes (anew rs) (standing rs))) (eq-eqb x y e) ∙ rows-same a rs
+rows-same a (test x y t e ∷ rs) =
+    ap (λ (u : Bool). a && (u && sameBytes (anew rs) (standing rs))) e ∙ deeper a t (sameBytes (anew rs) (standing rs)) ∙ rows-same (a && t) rs
+
+flag-again : (n : ℕ) → eqb (flagTag (flagOf n)) n ≡ leb n 1
+unfolding flagOf flagTag
+flag-again zero = refl
+flag-again (suc zero) = refl
+flag-again (suc (suc n)) =
+    ap (λ (t : Bool). eqb (cond t 1 0) (suc (suc n))) (ne-eqb (suc (suc n)) 1 (λ e. omega (arith, e))) ∙ ne-eqb 0 (suc (suc n)) (λ e. omega (arith, e))
+    ∙ sym (lt-leb (suc (suc n)) 1 (omega arith))
+
+display-again : (n : ℕ) → eqb (displayNumber (displayOf n)) n ≡ leb n 1
+unfolding displayOf displayNumber
+display-again zero = refl
+display-again (suc zero) = refl
+display-again (suc (suc n)) =
+    ap (λ (t : Bool). eqb (displayNumber (cond t display.Net display.Gross)) (suc (suc n))) (ne-eqb (suc (suc n)) 1 (λ e. omega (arith, e)))
+    ∙ ne-eqb 0 (suc (suc n)) (λ e. omega (arith, e))
+    ∙ sym (lt-leb (suc (suc n)) 1 (omega arith))
+
+module _ (l : List ℕ) (b : Bytes l) where
+  abbrev asked : State → Bool
+  asked st =
+      leb (beAt 1 l 36) 1 && leb (beAt 1 l 37) 1 && leb (beAt 1 l 40) 1 && leb (beAt 1 l 58) 1
+      && eqb (stageNumber (st .sequence .stage)) (beAt 1 l 88) && eqb (stageTimer (st .sequence .stage)) (beAt 2 l 90)
+      && eqb (errorNumber (st .sequence .error)) (beAt 1 l 94) && eqb (judgementNumber (st .sequence .judgement)) (beAt 1 l 95)
+      && eqb (backTag (st .totals .back)) (beAt 1 l 108) && eqb (backWeight (st .totals .back)) (beAt 8 l 112)
+
+  -- an unsigned number, a signed one, a flag; a name's number is asked as it stands
+  abbrev plain : ℕ → ℕ → Row
+  plain n at = same (beAt n l at) (beAt n l at) refl
+
+  abbrev narrow : ℕ → Row
+  narrow at = same (coded w32 (signed w32 (beAt 4 l at))) (beAt 4 l at) (coded-signed w32 (be-lt 4 l at b))
+
+  abbrev broad : ℕ → Row
+  broad at = same (coded w64 (signed w64 (beAt 8 l at))) (beAt 8 l at) (coded-signed w64 (be-lt 8 l at b))
+
+  abbrev flag : ℕ → Row
+  flag at = test (flagTag (flagOf (beAt 1 l at))) (beAt 1 l at) (leb (beAt 1 l at) 1) (flag-again (beAt 1 l at))
+
+  abbrev name : ℕ → ℕ → ℕ → Row
+  name x n at = test x (beAt n l at) (eqb x (beAt n l at)) refl
+
+  abbrev rows : Stage → SequenceError → Judgement → Batch → List Row
+  rows g e j v =
+      narrow 0 ∷ narrow 4 ∷ broad 8 ∷ broad 16 ∷ broad 24 ∷ plain 4 32 ∷ flag 36 ∷ flag 37
+      ∷ flag 40 ∷ plain 2 42
+      ∷ narrow 44 ∷ narrow 48 ∷ narrow 52 ∷ plain 2 56
+      ∷ test (displayNumber (displayOf (beAt 1 l 58))) (beAt 1 l 58) (leb (beAt 1 l 58) 1) (display-again (beAt 1 l 58))
+      ∷ plain 4 60 ∷ plain 4 64 ∷ plain 4 68 ∷ plain 4 72 ∷ plain 4 76 ∷ plain 4 80 ∷ plain 4 84
+      ∷ name (stageNumber g) 1 88 ∷ name (stageTimer g) 2 90 ∷ plain 2 92 ∷ name (errorNumber e) 1 94 ∷ name (judgementNumber j) 1 95
+      ∷ plain 8 96 ∷ plain 4 104 ∷ name (backTag v) 1 108 ∷ name (backWeight v) 8 112 ∷ []
+
+  read-whole : sameBytes (stateNumbers (stateAt l)) (getAll stateRows l) ≡ asked (stateAt l)
+  unfolding stateAt getAll
+  read-whole = rows-same true (rows (stateAt l .sequence .stage) (stateAt l .sequence .error) (stateAt l .sequence .judgement) (stateAt l .totals .back))
+
+  -- what the code asks
+  pub whole : (st : State) → st ≡ stateAt l → asked st ≡ sameBytes (stateNumbers st) (getAll stateRows l)
+  whole st e = subst (λ (x : State). asked x ≡ sameBytes (stateNumbers x) (getAll stateRows l)) (sym e) (sym read-whole)
+
+  -- and with it and the bytes in no place the comparison with an image of the state
+  pub state-again : length l ≡ stateLength → (st : State) → st ≡ stateAt l
+      → sameBytes (imageOf st) l ≡ sameBytes (stateNumbers st) (getAll stateRows l) && zerosIn (gaps 0 stateLength stateRows) l
+  unfolding imageOf putState
+  state-again n st e = again stateRows (stateNumbers st) l stateLength tt n b (numbers-fit st (subst HeldState (sym e) (held-at l b)))
+
+pub unused-state : (l : List ℕ) →
+    zerosAt 2 38 l && zerosAt 1 41 l && zerosAt 1 59 l && zerosAt 1 89 l && zerosAt 3 109 l && zerosAt 136 120 l ≡ zerosIn (gaps 0 stateLength stateRows) l
+unfolding zerosAt
+unused-state l = six (zerosAt 2 38 l) (zerosAt 1 41 l) (zerosAt 1 59 l) (zerosAt 1 89 l) (zerosAt 3 109 l) (zerosAt 136 120 l)
+  where
+    six : (a b c d e f : Bool) → a && b && c && d && e && f ≡ a && (b && (c && (d && (e && (f && true)))))
+    six false b c d e f = refl
+    six true false c d e f = refl
+    six true true false d e f = refl
+    six true true true false e f = refl
+    six true true true true false f = refl
+    six true true true true true false = refl
+    six true true true true true true = refl
+
+-- ---- settings: any numbers are read whole, so that only the bytes behind them are asked
+module _ (l : List ℕ) (b : Bytes l) where
+  held-given : Held (givenAt l)
+  unfolding givenAt getAll
+  held-given = record {
+    zero = signed-fits w32 (be-lt 4 l 0 b);
+    span = signed-fits w32 (be-lt 4 l 4 b);
+    capacity = signed-fits w32 (be-lt 4 l 8 b);
+    weight = signed-fits w32 (be-lt 4 l 12 b);
+    division = signed-fits w32 (be-lt 4 l 16 b);
+    zeroing = signed-fits w32 (be-lt 4 l 20 b);
+    tracktime = signed-fits w32 (be-lt 4 l 24 b);
+    trackwidth = signed-fits w32 (be-lt 4 l 28 b);
+    allowance = signed-fits w32 (be-lt 4 l 32 b);
+    stabletime = signed-fits w32 (be-lt 4 l 36 b);
+    stablewidth = signed-fits w32 (be-lt 4 l 40 b);
+    mode = signed-fits w32 (be-lt 4 l 44 b);
+    start = signed-fits w32 (be-lt 4 l 48 b);
+    large = signed-fits w32 (be-lt 4 l 52 b);
+    medium = signed-fits w32 (be-lt 4 l 56 b);
+    small = signed-fits w32 (be-lt 4 l 60 b);
+    judge = signed-fits w32 (be-lt 4 l 64 b);
+    flow = signed-fits w32 (be-lt 4 l 68 b);
+    address = signed-fits w32 (be-lt 4 l 72 b);
+    board = signed-fits w32 (be-lt 4 l 76 b);
+    low = signed-fits w32 (be-lt 4 l 80 b);
+    high = signed-fits w32 (be-lt 4 l 84 b);
+    dischargestart = signed-fits w32 (be-lt 4 l 88 b);
+    dischargeend = signed-fits w32 (be-lt 4 l 92 b);
+    dischargelimit = signed-fits w32 (be-lt 4 l 96 b);
+  }
+
+  numbers-again : sameBytes (givenNumbers (givenAt l)) (getAll givenRows l) ≡ true
+  unfolding givenAt getAll
+  numbers-again =
+      rows-same true (
+      narrow l b 0 ∷ narrow l b 4 ∷ narrow l b 8 ∷ narrow l b 12 ∷ narrow l b 16 ∷ narrow l b 20 ∷ narrow l b 24 ∷ narrow l b 28 ∷ narrow l b 32 ∷ narrow l b 36 ∷ narrow l b 40 ∷ narrow l b 44
+      ∷ narrow l b 48 ∷ narrow l b 52 ∷ narrow l b 56 ∷ narrow l b 60 ∷ narrow l b 64 ∷ narrow l b 68 ∷ narrow l b 72 ∷ narrow l b 76 ∷ narrow l b 80 ∷ narrow l b 84 ∷ narrow l b 88 ∷ narrow l b 92 ∷ narrow l b 96 ∷ []
+      )
+
+  pub given-again : length l ≡ givenLength → zerosAt 28 100 l ≡ sameBytes (givenImage (givenAt l)) l
+  unfolding givenImage putGiven zerosAt
+  given-again n =
+      sym
+      (again givenRows (givenNumbers (givenAt l)) l givenLength tt n b (given.numbers-fit (givenAt l) held-given)
+      ∙ ap (λ (t : Bool). t && zerosIn (gaps 0 givenLength givenRows) l) numbers-again
+      ∙ and-true (zerosAt 28 100 l))
