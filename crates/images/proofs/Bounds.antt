@@ -32,7 +32,7 @@ use Rattle.outline.proofs.Opened.{Rows, passed, rows}
 use Rattle.outline.proofs.RangeGuard.{Bounded, bounded, up-to}
 use Rattle.outline.proofs.SetpointLaw.{setpoint-law}
 use Rattle.images.specs.StateImage.{stageTimer, backWeight}
-use Rattle.images.proofs.Trip.{HeldBook, HeldWeighing, HeldSetpoints, HeldSequence, HeldTotals, HeldState}
+use Rattle.images.specs.Holds.{HeldBook, HeldWeighing, HeldSetpoints, HeldSequence, HeldTotals, HeldState}
 
 -- ---- what accepted settings bound, beside capacity, zero range and division
 pub record Delays (b : Batching) : Type 0 where

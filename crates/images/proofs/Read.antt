@@ -24,7 +24,8 @@ use Rattle.outline.specs.Numbers.{stageNumber, errorNumber, judgementNumber}
 use Rattle.settings.specs.Held.{Held}
 use Rattle.images.specs.StateImage.{displayNumber, displayOf, stageOf, stageTimer, backTag, backWeight, backOf, stateLength, stateRows, stateNumbers, putState, imageOf, stateAt}
 use Rattle.images.specs.GivenImage.{givenLength, givenRows, givenNumbers, putGiven, givenImage, givenAt}
-use Rattle.images.proofs.Trip.{HeldState, numbers-fit}
+use Rattle.images.specs.Holds.{HeldState}
+use Rattle.images.proofs.Trip.{numbers-fit}
 use Rattle.images.proofs.GivenTrip as given
 
 -- ---- the types hold it

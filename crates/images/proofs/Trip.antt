@@ -1,6 +1,6 @@
 -- There and back. A state that its machine types hold is read from its image; an image that is not refused is its state's, and a byte of it that no
 -- row has is 0. Assumes nothing.
-use Prim.Native.Nat.{ℕ, _^_, _<_}
+use Prim.Native.Nat.{ℕ}
 use native.Mathlib.Omega.{arith}
 use mathlib.Core.Path.{_≡_, refl, sym, ap, _∙_}
 use mathlib.Core.Bool.{Bool, true, false, cond}
@@ -8,7 +8,6 @@ use mathlib.Core.List.{List, [], _∷_}
 use lib.Dec.{eqb}
 use lib.ListN.{length, getD, take, drop, replicate}
 use mir.Syntax.{w32, w64}
-use mir.Val.{SFits}
 use borrow.Author.Tests.{eq-eqb}
 use Rattle.places.specs.Places.{getAll, sameBytes, Numbers}
 use Rattle.places.proofs.Numbers.{coded-lt, signed-coded, same-yes, same-self, pad-get}
@@ -22,52 +21,12 @@ use Rattle.types.specs.declared.stages.Totals.{Totals}
 use Rattle.types.specs.declared.machine.State.{State}
 use Rattle.outline.specs.Settings.{settingsOf}
 use Rattle.images.specs.StateImage.{stageTimer, backWeight, stateLength, bookRows, bookNumbers, bookOf, stabilityRows, stabilityNumbers, stabilityOf, weighingRows, weighingNumbers, weighingOf, panelRows, panelNumbers, panelOf, setpointRows, setpointNumbers, setpointsOf, sequenceRows, sequenceNumbers, sequenceOf, totalsRows, totalsNumbers, totalsOf, stateRows, stateNumbers, putState, imageOf, stateAt}
+use Rattle.images.specs.Holds.{HeldBook, HeldWeighing, HeldSetpoints, HeldSequence, HeldTotals, HeldState}
 use Rattle.images.specs.Possible.{possible}
 use Rattle.images.specs.Images.{stateRefusal, stateIn}
 use Rattle.images.specs.Owed.{good, OneImage, UnusedZero}
 use Rattle.images.proofs.Tables.{table, fit-all}
 use Rattle.images.proofs.NameLaws.{flag-back, flag-lt, display-back, display-lt, stage-back, stage-lt, error-back, error-lt, judgement-back, judgement-lt, back-back, back-lt}
-
--- ---- what the machine holds of a state: each number fits its type
-pub record HeldBook (b : Book) : Type 0 where
-  pub opening : SFits w32 (b .opening)
-  pub last : SFits w32 (b .last)
-  pub refilled : SFits w64 (b .refilled)
-  pub used : SFits w64 (b .used)
-  pub unbooked : SFits w64 (b .unbooked)
-  pub ticks : b .ticks < 2 ^ 32
-
-pub record HeldWeighing (w : Weighing) : Type 0 where
-  pub zero : SFits w32 (w .zero)
-  pub tracked : SFits w32 (w .tracked)
-  pub tare : SFits w32 (w .tare)
-  pub counter : w .counter < 2 ^ 16
-
-pub record HeldSetpoints (p : Setpoints) : Type 0 where
-  pub target : p .target < 2 ^ 32
-  pub fall : p .fall < 2 ^ 32
-  pub preliminary : p .preliminary < 2 ^ 32
-  pub optional : p .optional < 2 ^ 32
-  pub over : p .over < 2 ^ 32
-  pub under : p .under < 2 ^ 32
-  pub near : p .near < 2 ^ 32
-
-pub record HeldSequence (q : Sequence) : Type 0 where
-  pub timer : stageTimer (q .stage) < 2 ^ 16
-  pub clock : q .clock < 2 ^ 16
-
-pub record HeldTotals (t : Totals) : Type 0 where
-  pub total : t .total < 2 ^ 64
-  pub count : t .count < 2 ^ 32
-  pub weight : backWeight (t .back) < 2 ^ 64
-
-pub record HeldState (st : State) : Type 0 where
-  pub book : HeldBook (st .book)
-  pub run : st .stability .run < 2 ^ 16
-  pub weighing : HeldWeighing (st .weighing)
-  pub setpoints : HeldSetpoints (st .setpoints)
-  pub sequence : HeldSequence (st .sequence)
-  pub totals : HeldTotals (st .totals)
 
 -- ---- the numbers of each part of a state
 book-fits : (b : Book) → HeldBook b → Numbers bookRows (bookNumbers b)

@@ -1,7 +1,10 @@
 // The parts of a state at their places in its image: read, whatever the bytes are, and written. The tables are those of specs/StateImage.antt.
 ghost use mathlib.Core.Path.{_≡_};
-ghost use Rattle.places.specs.Places.{getAll, putAll};
-ghost use Rattle.images.specs.StateImage.{bookRows, bookNumbers, bookOf, stabilityRows, stabilityNumbers, stabilityOf, weighingRows, weighingNumbers, weighingOf, panelRows, panelNumbers, panelOf, setpointRows, setpointNumbers, setpointsOf, sequenceRows, sequenceNumbers, sequenceOf, totalsRows, totalsNumbers, totalsOf};
+ghost use Rattle.places.specs.Places.{getAll};
+ghost use Rattle.images.specs.StateImage.{bookRows, bookOf, stabilityRows, stabilityOf, weighingRows, weighingOf, panelRows, panelOf, setpointRows, setpointsOf, sequenceRows, sequenceOf, totalsRows, totalsOf};
+ghost use Rattle.types.specs.declared.machine.State.{State};
+ghost use Rattle.outline.specs.Parts.{withBook, withStability, withWeighing, withSetpoints, withSequence, withTotals};
+ghost use Rattle.images.specs.Holds.{Turns, withPanel};
 use crate::names::back_of;
 use crate::names::back_tag;
 use crate::names::back_weight;
@@ -46,7 +49,7 @@ pub(crate) fn book_at(s: &[u8]) -> Book
 }
 
 pub(crate) fn put_book(s: &mut [u8], b: Book)
-    ensures { λ _. ⌜ now (s .exit) ≡ putAll bookRows (bookNumbers b) (now (s .entry)) ⌝ }
+    ensures { λ _. ⌜ Turns (now (s .entry)) (now (s .exit)) (λ (st : State). withBook st b) ⌝ }
 {
     places::put_i32(s, 0, b.opening);
     places::put_i32(s, 4, b.last);
@@ -67,7 +70,7 @@ pub(crate) fn stability_at(s: &[u8]) -> Stability
 }
 
 pub(crate) fn put_stability(s: &mut [u8], q: Stability)
-    ensures { λ _. ⌜ now (s .exit) ≡ putAll stabilityRows (stabilityNumbers q) (now (s .entry)) ⌝ }
+    ensures { λ _. ⌜ Turns (now (s .entry)) (now (s .exit)) (λ (st : State). withStability st q) ⌝ }
 {
     places::put_flag(s, 40, q.good);
     places::put_u16(s, 42, q.run);
@@ -89,7 +92,7 @@ pub(crate) fn weighing_at(s: &[u8]) -> Weighing
 }
 
 pub(crate) fn put_weighing(s: &mut [u8], w: Weighing)
-    ensures { λ _. ⌜ now (s .exit) ≡ putAll weighingRows (weighingNumbers w) (now (s .entry)) ⌝ }
+    ensures { λ _. ⌜ Turns (now (s .entry)) (now (s .exit)) (λ (st : State). withWeighing st w) ⌝ }
 {
     places::put_i32(s, 44, w.zero);
     places::put_i32(s, 48, w.tracked);
@@ -105,7 +108,7 @@ pub(crate) fn panel_at(s: &[u8]) -> Panel
 }
 
 pub(crate) fn put_panel(s: &mut [u8], p: Panel)
-    ensures { λ _. ⌜ now (s .exit) ≡ putAll panelRows (panelNumbers p) (now (s .entry)) ⌝ }
+    ensures { λ _. ⌜ Turns (now (s .entry)) (now (s .exit)) (λ (st : State). withPanel st p) ⌝ }
 {
     let display = p.display;
     places::put_u8(s, 58, display_number(display));
@@ -133,7 +136,7 @@ pub(crate) fn setpoints_at(s: &[u8]) -> Setpoints
 }
 
 pub(crate) fn put_setpoints(s: &mut [u8], p: Setpoints)
-    ensures { λ _. ⌜ now (s .exit) ≡ putAll setpointRows (setpointNumbers p) (now (s .entry)) ⌝ }
+    ensures { λ _. ⌜ Turns (now (s .entry)) (now (s .exit)) (λ (st : State). withSetpoints st p) ⌝ }
 {
     places::put_u32(s, 60, p.target);
     places::put_u32(s, 64, p.fall);
@@ -160,7 +163,7 @@ pub(crate) fn sequence_at(s: &[u8]) -> Sequence
 }
 
 pub(crate) fn put_sequence(s: &mut [u8], q: Sequence)
-    ensures { λ _. ⌜ now (s .exit) ≡ putAll sequenceRows (sequenceNumbers q) (now (s .entry)) ⌝ }
+    ensures { λ _. ⌜ Turns (now (s .entry)) (now (s .exit)) (λ (st : State). withSequence st q) ⌝ }
 {
     let stage = q.stage;
     let error = q.error;
@@ -182,7 +185,7 @@ pub(crate) fn totals_at(s: &[u8]) -> Totals
 }
 
 pub(crate) fn put_totals(s: &mut [u8], t: Totals)
-    ensures { λ _. ⌜ now (s .exit) ≡ putAll totalsRows (totalsNumbers t) (now (s .entry)) ⌝ }
+    ensures { λ _. ⌜ Turns (now (s .entry)) (now (s .exit)) (λ (st : State). withTotals st t) ⌝ }
 {
     let back = t.back;
     places::put_u64(s, 96, t.total);

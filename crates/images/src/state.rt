@@ -2,7 +2,9 @@
 ghost use mathlib.Core.Path.{_≡_};
 ghost use lib.Dec.{leb};
 ghost use Rattle.places.specs.Places.{sameBytes, getAll, gaps, zerosIn};
-ghost use Rattle.images.specs.StateImage.{stateLength, stateRows, stateNumbers, putState, stateAt};
+ghost use Rattle.images.specs.StateImage.{stateLength, stateRows, stateNumbers, stateAt};
+ghost use Rattle.types.specs.declared.machine.State.{State};
+ghost use Rattle.images.specs.Holds.{Turns};
 ghost use Rattle.images.specs.Images.{stateRefusal, stateIn, written};
 use crate::names::back_tag;
 use crate::names::back_weight;
@@ -47,7 +49,7 @@ fn state_at(s: &[u8]) -> State
 }
 
 fn put_state(s: &mut [u8], st: State)
-    ensures { λ _. ⌜ now (s .exit) ≡ putState st (now (s .entry)) ⌝ }
+    ensures { λ _. ⌜ Turns (now (s .entry)) (now (s .exit)) (λ (_ : State). st) ⌝ }
 {
     parts::put_book(s, st.book);
     parts::put_stability(s, st.stability);

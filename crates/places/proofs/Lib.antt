@@ -1,3 +1,4 @@
 pub mod Numbers
 pub mod Layouts
 pub mod Again
+pub mod Anew

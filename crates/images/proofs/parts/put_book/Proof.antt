@@ -1,27 +1,21 @@
 -- Each row is written over the bytes that the rows before it left.
-use mathlib.Core.Path.{ap, _∙_}
+use mathlib.Core.Path.{_≡_, ap, _∙_}
 use lib.ListN.{length}
 use mir.Syntax.{w32, w64}
-use mir.Val.{SFits}
+use native.Mathlib.Omega.{arith}
 use borrow.Author.Needs.{needs}
 use Rattle.whole.specs.Bits.{arg}
 use Rattle.whole.specs.Machine.{sfits-of}
-use Rattle.types.specs.declared.daybook.Book.{Book}
 use Rattle.places.proofs.Layouts.{put-all-length}
 use Rattle.places.specs.Places.{putBe, putAll, coded, flagTag}
 use Rattle.images.specs.StateImage.{bookRows, bookNumbers}
+use Rattle.images.specs.Holds.{HeldBook}
+use Rattle.images.proofs.InPlace.{turns-book}
 use Rattle.images.proofs.parts.put_book.Statement.{statement}
 use Rattle.images.proofs.parts.put_book.Tie as tie
 
-record Signed (b : Book) : Type 0 where
-  opening : SFits w32 (b .opening)
-  last : SFits w32 (b .last)
-  refilled : SFits w64 (b .refilled)
-  used : SFits w64 (b .used)
-  unbooked : SFits w64 (b .unbooked)
-
-fields : (s : tie.Start) → Signed (s .args .b)
-fields s = record { opening = search sfits-of; last = search sfits-of; refilled = search sfits-of; used = search sfits-of; unbooked = search sfits-of }
+fields : (s : tie.Start) → HeldBook (s .args .b)
+fields s = record { opening = search sfits-of; last = search sfits-of; refilled = search sfits-of; used = search sfits-of; unbooked = search sfits-of; ticks = omega arith }
 
 put-i32-requires : tie.Need-put-i32-requires
 put-i32-requires c κs = search needs
@@ -47,10 +41,13 @@ put-flag-requires c κs = search needs
 put-flag-requires-2 : tie.Need-put-flag-requires-2
 put-flag-requires-2 c κs = search needs
 
-returns : tie.Need-returns
+abbrev start : tie.After-slice-known9 → tie.Start
+start c = c .before .before .before .before .before .before .before .before .before .before .before .before .before .before .before .before .before .before .before .before .before .before .before .before .before .before .before .before .before .before .before .before .before .before .before .before .before .before
+
+written : (c : tie.After-slice-known9) → c .before .before .put-flag2 .last .0 ≡ putAll bookRows (bookNumbers (start c .args .b)) (start c .args .s .now)
 unfolding putAll
-returns c =
-    let a = c .before .before .before .before .before .before .before .before .before .before .before .before .before .before .before .before .before .before .before .before .before .before .before .before .before .before .before .before .before .before .before .before .before .before .before .before .before .before in
+written c =
+    let a = start c in
     let b = a .args .b in
     let f = fields a in
     let e1 = c .before .before .before .before .before .before .before .before .before .before .before .before .before .before .before .before .before .before .before .before .before .before .before .before .before .before .before .before .before .before .before .before .before .before .put-i32 .ensures ∙ (λ i. putBe 4 (coded w32 (arg (f .opening) .read i)) (a .args .s .now) 0) in
@@ -63,7 +60,10 @@ returns c =
     c .before .before .put-flag2 .ensures ∙ (λ i. putBe 1 (flagTag (b .contact)) (e7 i) 37)
 
 same-length : tie.Need-same-length
-same-length c = ap length (returns c) ∙ put-all-length bookRows (bookNumbers _) _
+same-length c = ap length (written c) ∙ put-all-length bookRows (bookNumbers _) _
+
+returns : tie.Need-returns
+returns c = turns-book (start c .args .b) (fields (start c)) _ _ (written c)
 
 pub put-book-spec : {M : Type 1} → statement M
 put-book-spec =

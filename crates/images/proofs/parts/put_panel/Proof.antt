@@ -2,6 +2,7 @@
 use mathlib.Core.Path.{_∙_}
 use borrow.Author.Needs.{needs}
 use Rattle.places.specs.Places.{putBe, putAll}
+use Rattle.images.proofs.InPlace.{turns-panel}
 use Rattle.images.proofs.parts.put_panel.Statement.{statement}
 use Rattle.images.proofs.parts.put_panel.Tie as tie
 
@@ -18,7 +19,7 @@ returns : tie.Need-returns
 unfolding putAll
 returns c =
     let a = c .before .before .before .before .before .before in
-    c .before .before .put-u8 .ensures ∙ (λ i. putBe 1 (c .before .before .before .display-number .ensures i) (a .args .s .now) 58)
+    turns-panel (a .args .p) _ _ (c .before .before .put-u8 .ensures ∙ (λ i. putBe 1 (c .before .before .before .display-number .ensures i) (a .args .s .now) 58))
 
 pub put-panel-spec : {M : Type 1} → statement M
 put-panel-spec = tie.close (tie.spec display-number-requires put-u8-requires same-length returns)

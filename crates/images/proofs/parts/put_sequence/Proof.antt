@@ -1,7 +1,10 @@
 -- Each row is written over the bytes that the rows before it left.
 use mathlib.Core.Path.{_∙_}
+use native.Mathlib.Omega.{arith}
 use borrow.Author.Needs.{needs}
 use Rattle.places.specs.Places.{putBe, putAll}
+use Rattle.images.specs.Holds.{HeldSequence}
+use Rattle.images.proofs.InPlace.{turns-sequence}
 use Rattle.images.proofs.parts.put_sequence.Statement.{statement}
 use Rattle.images.proofs.parts.put_sequence.Tie as tie
 
@@ -44,7 +47,8 @@ returns c =
     let e2 = c .before .before .before .before .before .before .before .before .before .before .before .before .before .before .before .before .put-u16 .ensures ∙ (λ i. putBe 2 (c .before .before .before .before .before .before .before .before .before .before .before .before .before .before .before .before .before .stage-timer .ensures i) (e1 i) 90) in
     let e3 = c .before .before .before .before .before .before .before .before .before .before .before .before .put-u162 .ensures ∙ (λ i. putBe 2 (q .clock) (e2 i) 92) in
     let e4 = c .before .before .before .before .before .before .before .put-u82 .ensures ∙ (λ i. putBe 1 (c .before .before .before .before .before .before .before .before .error-number .ensures i) (e3 i) 94) in
-    c .before .before .put-u83 .ensures ∙ (λ i. putBe 1 (c .before .before .before .judgement-number .ensures i) (e4 i) 95)
+    let f : HeldSequence q = record { timer = omega (arith, c .before .before .before .before .before .before .before .before .before .before .before .before .before .before .before .before .before .stage-timer .ensures); clock = omega arith } in
+    turns-sequence q f _ _ (c .before .before .put-u83 .ensures ∙ (λ i. putBe 1 (c .before .before .before .judgement-number .ensures i) (e4 i) 95))
 
 pub put-sequence-spec : {M : Type 1} → statement M
 put-sequence-spec =

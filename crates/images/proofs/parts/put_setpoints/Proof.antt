@@ -1,7 +1,10 @@
 -- Each row is written over the bytes that the rows before it left.
 use mathlib.Core.Path.{_∙_}
+use native.Mathlib.Omega.{arith}
 use borrow.Author.Needs.{needs}
 use Rattle.places.specs.Places.{putBe, putAll}
+use Rattle.images.specs.Holds.{HeldSetpoints}
+use Rattle.images.proofs.InPlace.{turns-setpoints}
 use Rattle.images.proofs.parts.put_setpoints.Statement.{statement}
 use Rattle.images.proofs.parts.put_setpoints.Tie as tie
 
@@ -29,6 +32,9 @@ put-u32-requires-7 c κs = search needs
 same-length : tie.Need-same-length
 same-length c = search needs
 
+fields : (s : tie.Start) → HeldSetpoints (s .args .p)
+fields s = record { target = omega arith; fall = omega arith; preliminary = omega arith; optional = omega arith; over = omega arith; under = omega arith; near = omega arith }
+
 returns : tie.Need-returns
 unfolding putAll
 returns c =
@@ -40,7 +46,7 @@ returns c =
     let e4 = c .before .before .before .before .before .before .before .before .before .before .before .before .before .before .put-u324 .ensures ∙ (λ i. putBe 4 (p .optional) (e3 i) 72) in
     let e5 = c .before .before .before .before .before .before .before .before .before .before .put-u325 .ensures ∙ (λ i. putBe 4 (p .over) (e4 i) 76) in
     let e6 = c .before .before .before .before .before .before .put-u326 .ensures ∙ (λ i. putBe 4 (p .under) (e5 i) 80) in
-    c .before .before .put-u327 .ensures ∙ (λ i. putBe 4 (p .near) (e6 i) 84)
+    turns-setpoints p (fields a) _ _ (c .before .before .put-u327 .ensures ∙ (λ i. putBe 4 (p .near) (e6 i) 84))
 
 pub put-setpoints-spec : {M : Type 1} → statement M
 put-setpoints-spec =

@@ -1,7 +1,10 @@
 -- Each row is written over the bytes that the rows before it left.
 use mathlib.Core.Path.{_∙_}
+use Prim.Native.Nat.{_^_, _<_}
+use native.Mathlib.Omega.{arith}
 use borrow.Author.Needs.{needs}
 use Rattle.places.specs.Places.{putBe, putAll}
+use Rattle.images.proofs.InPlace.{turns-stability}
 use Rattle.images.proofs.parts.put_stability.Statement.{statement}
 use Rattle.images.proofs.parts.put_stability.Tie as tie
 
@@ -20,7 +23,8 @@ returns c =
     let a = c .before .before .before .before .before .before .before .before .before in
     let q = a .args .q in
     let e1 = c .before .before .before .before .before .before .put-flag .ensures in
-    c .before .before .put-u16 .ensures ∙ (λ i. putBe 2 (q .run) (e1 i) 42)
+    let f : q .run < 2 ^ 16 = omega (arith, c) in
+    turns-stability q f _ _ (c .before .before .put-u16 .ensures ∙ (λ i. putBe 2 (q .run) (e1 i) 42))
 
 pub put-stability-spec : {M : Type 1} → statement M
 put-stability-spec = tie.close (tie.spec put-flag-requires put-u16-requires same-length returns)

@@ -1,7 +1,10 @@
 -- Each row is written over the bytes that the rows before it left.
 use mathlib.Core.Path.{_∙_}
+use native.Mathlib.Omega.{arith}
 use borrow.Author.Needs.{needs}
 use Rattle.places.specs.Places.{putBe, putAll}
+use Rattle.images.specs.Holds.{HeldTotals}
+use Rattle.images.proofs.InPlace.{turns-totals}
 use Rattle.images.proofs.parts.put_totals.Statement.{statement}
 use Rattle.images.proofs.parts.put_totals.Tie as tie
 
@@ -34,7 +37,8 @@ returns c =
     let e1 = c .before .before .before .before .before .before .before .before .before .before .before .before .before .before .before .before .put-u64 .ensures in
     let e2 = c .before .before .before .before .before .before .before .before .before .before .before .before .put-u32 .ensures ∙ (λ i. putBe 4 (t .count) (e1 i) 104) in
     let e3 = c .before .before .before .before .before .before .before .put-u8 .ensures ∙ (λ i. putBe 1 (c .before .before .before .before .before .before .before .before .back-tag .ensures i) (e2 i) 108) in
-    c .before .before .put-u642 .ensures ∙ (λ i. putBe 8 (c .before .before .before .back-weight .ensures i) (e3 i) 112)
+    let f : HeldTotals t = record { total = omega arith; count = omega arith; weight = omega (arith, c .before .before .before .back-weight .ensures) } in
+    turns-totals t f _ _ (c .before .before .put-u642 .ensures ∙ (λ i. putBe 8 (c .before .before .before .back-weight .ensures i) (e3 i) 112))
 
 pub put-totals-spec : {M : Type 1} → statement M
 put-totals-spec =

@@ -1,22 +1,18 @@
 -- Each row is written over the bytes that the rows before it left.
 use mathlib.Core.Path.{_∙_}
 use mir.Syntax.{w32}
-use mir.Val.{SFits}
+use native.Mathlib.Omega.{arith}
 use borrow.Author.Needs.{needs}
 use Rattle.whole.specs.Bits.{arg}
 use Rattle.whole.specs.Machine.{sfits-of}
-use Rattle.types.specs.declared.weight.Weighing.{Weighing}
 use Rattle.places.specs.Places.{putBe, putAll, coded}
+use Rattle.images.specs.Holds.{HeldWeighing}
+use Rattle.images.proofs.InPlace.{turns-weighing}
 use Rattle.images.proofs.parts.put_weighing.Statement.{statement}
 use Rattle.images.proofs.parts.put_weighing.Tie as tie
 
-record Signed (w : Weighing) : Type 0 where
-  zero : SFits w32 (w .zero)
-  tracked : SFits w32 (w .tracked)
-  tare : SFits w32 (w .tare)
-
-fields : (s : tie.Start) → Signed (s .args .w)
-fields s = record { zero = search sfits-of; tracked = search sfits-of; tare = search sfits-of }
+fields : (s : tie.Start) → HeldWeighing (s .args .w)
+fields s = record { zero = search sfits-of; tracked = search sfits-of; tare = search sfits-of; counter = omega arith }
 
 put-i32-requires : tie.Need-put-i32-requires
 put-i32-requires c κs = search needs
@@ -42,7 +38,7 @@ returns c =
     let e1 = c .before .before .before .before .before .before .before .before .before .before .before .before .before .before .before .before .put-i32 .ensures ∙ (λ i. putBe 4 (coded w32 (arg (f .zero) .read i)) (a .args .s .now) 44) in
     let e2 = c .before .before .before .before .before .before .before .before .before .before .before .put-i322 .ensures ∙ (λ i. putBe 4 (coded w32 (arg (f .tracked) .read i)) (e1 i) 48) in
     let e3 = c .before .before .before .before .before .before .put-i323 .ensures ∙ (λ i. putBe 4 (coded w32 (arg (f .tare) .read i)) (e2 i) 52) in
-    c .before .before .put-u16 .ensures ∙ (λ i. putBe 2 (w .counter) (e3 i) 56)
+    turns-weighing w f _ _ (c .before .before .put-u16 .ensures ∙ (λ i. putBe 2 (w .counter) (e3 i) 56))
 
 pub put-weighing-spec : {M : Type 1} → statement M
 put-weighing-spec =

@@ -1,8 +1,5 @@
--- Each part is written over the bytes that the parts before it left.
-use mathlib.Core.Path.{_∙_}
+-- Part by part, each over a buffer that holds the state with the parts before it.
 use borrow.Author.Needs.{needs}
-use Rattle.places.specs.Places.{putAll}
-use Rattle.images.specs.StateImage.{stabilityRows, stabilityNumbers, weighingRows, weighingNumbers, panelRows, panelNumbers, setpointRows, setpointNumbers, sequenceRows, sequenceNumbers, totalsRows, totalsNumbers, putState}
 use Rattle.images.proofs.state.put_state.Statement.{statement}
 use Rattle.images.proofs.state.put_state.Tie as tie
 
@@ -31,16 +28,14 @@ same-length : tie.Need-same-length
 same-length c = search needs
 
 returns : tie.Need-returns
-unfolding putState putAll
-returns c =
-    let st = c .before .before .before .before .before .before .before .before .before .before .before .before .before .before .before .before .before .before .before .before .before .before .before .before .before .before .before .before .before .args .st in
-    let e1 = c .before .before .before .before .before .before .before .before .before .before .before .before .before .before .before .before .before .before .before .before .before .before .before .before .before .before .put-book .ensures in
-    let e2 = c .before .before .before .before .before .before .before .before .before .before .before .before .before .before .before .before .before .before .before .before .before .before .put-stability .ensures ∙ (λ i. putAll stabilityRows (stabilityNumbers (st .stability)) (e1 i)) in
-    let e3 = c .before .before .before .before .before .before .before .before .before .before .before .before .before .before .before .before .before .before .put-weighing .ensures ∙ (λ i. putAll weighingRows (weighingNumbers (st .weighing)) (e2 i)) in
-    let e4 = c .before .before .before .before .before .before .before .before .before .before .before .before .before .before .put-panel .ensures ∙ (λ i. putAll panelRows (panelNumbers (st .panel)) (e3 i)) in
-    let e5 = c .before .before .before .before .before .before .before .before .before .before .put-setpoints .ensures ∙ (λ i. putAll setpointRows (setpointNumbers (st .setpoints)) (e4 i)) in
-    let e6 = c .before .before .before .before .before .before .put-sequence .ensures ∙ (λ i. putAll sequenceRows (sequenceNumbers (st .sequence)) (e5 i)) in
-    c .before .before .put-totals .ensures ∙ (λ i. putAll totalsRows (totalsNumbers (st .totals)) (e6 i))
+returns c st h =
+    let e1 = c .before .before .before .before .before .before .before .before .before .before .before .before .before .before .before .before .before .before .before .before .before .before .before .before .before .before .put-book .ensures st h in
+    let e2 = c .before .before .before .before .before .before .before .before .before .before .before .before .before .before .before .before .before .before .before .before .before .before .put-stability .ensures _ e1 in
+    let e3 = c .before .before .before .before .before .before .before .before .before .before .before .before .before .before .before .before .before .before .put-weighing .ensures _ e2 in
+    let e4 = c .before .before .before .before .before .before .before .before .before .before .before .before .before .before .put-panel .ensures _ e3 in
+    let e5 = c .before .before .before .before .before .before .before .before .before .before .put-setpoints .ensures _ e4 in
+    let e6 = c .before .before .before .before .before .before .put-sequence .ensures _ e5 in
+    c .before .before .put-totals .ensures _ e6
 
 pub put-state-spec : {M : Type 1} → statement M
 put-state-spec =
