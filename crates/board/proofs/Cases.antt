@@ -1,11 +1,11 @@
 -- What a call answers and leaves, by what it was refused with. Assumes nothing.
 use Prim.Native.Nat.{ℕ, _≤_}
 use native.Mathlib.Omega.{arith}
-use mathlib.Core.Path.{_≡_, refl, sym}
+use mathlib.Core.Path.{_≡_, refl, sym, ap, _∙_}
 use mathlib.Core.Bool.{Bool, true, false, cond}
 use mathlib.Core.List.{List}
 use lib.Dec.{eqb}
-use lib.ListN.{length}
+use lib.ListN.{length, replicate}
 use lib.IntN.{ℤ}
 use borrow.Author.Tests.{eq-eqb, ne-eqb, eqb-true, le-leb}
 use Rattle.types.specs.declared.settings.Given.{Given}
@@ -27,6 +27,7 @@ use Rattle.images.specs.Possible.{possible}
 use Rattle.images.specs.Images.{stateRefusal, stateIn, written}
 use Rattle.images.specs.GivenImage.{givenIn}
 use Rattle.images.proofs.Tests.{write-good}
+use Rattle.images.proofs.InPlace.{open-holds}
 use Rattle.board.specs.AskedBy.{isRequest}
 use Rattle.board.specs.AnswerImage.{answerLength, answerBuffer}
 use Rattle.board.specs.Board.{imagesRefusal, callRefusal, givenBy, settingsBy, stateBy, refusalBy, unless, lengthRefusal, openAnswer, openImage, ifRoom, tickBy, toldOf, tickAnswer, tickImage, tickBuffer, lineBy, lineAnswer, lineImage, lineReply, lineBuffer, blockBy, blockAnswer, blockImage}
@@ -130,11 +131,11 @@ module _ (l t : List ℕ) where
   unfolding openAnswer openImage
   open-settings w o = let e = by-settings (givenIn l .refusal) (lengthRefusal (length t)) (givenBy l) w o in (sym e, rw e)
 
-  pub open-good : (s : Settings) → whyOpen ≡ 0 → openOf (givenBy l) ≡ opening.Accepted s → (0 ≡ openAnswer l (length t)) × (written openState t ≡ openImage l t)
+  pub open-good : (s : Settings) → whyOpen ≡ 0 → openOf (givenBy l) ≡ opening.Accepted s → (0 ≡ openAnswer l (length t)) × (replicate (length t) 0 ≡ openImage l t)
   unfolding openAnswer openImage
   open-good s w o =
       let e = by-none (givenIn l .refusal) (lengthRefusal (length t)) (givenBy l) s w o in
-      (sym e, rw e (sym (write-good openState t (length-passes (length t) (state-passes (givenIn l .refusal) (lengthRefusal (length t)) (givenBy l) w)))))
+      (sym e, rw e (ap (λ (k : ℕ). replicate k 0) (length-passes (length t) (state-passes (givenIn l .refusal) (lengthRefusal (length t)) (givenBy l) w)) ∙ sym (open-holds .image)))
 
 -- ---- the calls that read both images
 module _ (l t : List ℕ) where

@@ -15,7 +15,6 @@ use answer::put_answer;
 use asked::is_request;
 use asked::request_by;
 use controller::opening::open;
-use controller::opening::open_state;
 use images::given::read_given;
 use images::state::read_state;
 use images::state::write_state;
@@ -100,9 +99,9 @@ pub extern "C" fn pressgully_open(settings: &[u8], state: &mut [u8]) -> u32
     }
     match open(g.given) {
         Opening::Refused => return 10,
-        Opening::Accepted(s) => {
-            let st = open_state(s);
-            write_state(st, state);
+        Opening::Accepted(_) => {
+            // every byte of the opening state's image is 0
+            places::clear(state);
             return 0;
         }
     }

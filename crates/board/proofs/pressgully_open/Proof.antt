@@ -1,8 +1,7 @@
--- The images refuse, the settings do, or the opening's state is written.
+-- The images refuse, the settings do, or every byte is made 0, which is the opening state's image.
 use mathlib.Core.Path.{sym, ap, _∙_}
 use borrow.Author.Needs.{needs}
 use Rattle.outline.specs.Settings.{openOf}
-use Rattle.images.specs.Images.{written}
 use Rattle.board.specs.Board.{imagesRefusal}
 use Rattle.board.proofs.Cases.{open-images, open-settings, open-good}
 use Rattle.board.proofs.pressgully_open.Statement.{statement}
@@ -37,24 +36,26 @@ returns-2 c =
     let e = (c .before .before .before .before .images-refusal .ensures ∙ (λ i. imagesRefusal (c .before .before .before .before .before .before .read-given .ensures i .refusal) (c .before .before .before .before .before .length-refusal .ensures i))) in
     open-settings _ _ (sym e ∙ c .before .before .before .if1 .left) (sym (c .before .before .«open» .ensures .0 ∙ ap openOf (λ i. c .before .before .before .before .before .before .read-given .ensures i .given)) ∙ c .enum-told .given .1)
 
-enum-known-s : tie.Need-enum-known-s
-enum-known-s c = search needs
+enum-told-2 : tie.Need-enum-told-2
+enum-told-2 c = search needs
 
-open-state-requires : tie.Need-open-state-requires
-open-state-requires c κs = search needs
-
-write-state-requires : tie.Need-write-state-requires
-write-state-requires c κs = search needs
+clear-requires : tie.Need-clear-requires
+clear-requires c κs = search needs
 
 same-length : tie.Need-same-length
 same-length c = search needs
 
 returns-3 : tie.Need-returns-3
 returns-3 c =
-    let a = c .before .before .before .before .before .before .before .before .before .before .before .before .before .before .before .args in
-    let e = (c .before .before .before .before .before .before .before .before .before .before .images-refusal .ensures ∙ (λ i. imagesRefusal (c .before .before .before .before .before .before .before .before .before .before .before .before .read-given .ensures i .refusal) (c .before .before .before .before .before .before .before .before .before .before .before .length-refusal .ensures i))) in
-    let r = open-good (a .settings .now) (a .state .now) _ (sym e ∙ c .before .before .before .before .before .before .before .before .before .if1 .left) (sym (c .before .before .before .before .before .before .before .before .«open» .ensures .0 ∙ ap openOf (λ i. c .before .before .before .before .before .before .before .before .before .before .before .before .read-given .ensures i .given)) ∙ c .before .before .before .before .before .before .s .given .1) in
-    (r .0, c .before .before .write-state .ensures ∙ (λ i. written (c .before .before .before .before .open-state .ensures i) (a .state .now)) ∙ r .1)
+    let told = c .before .before .before .before in
+    let opened = told .before .before in
+    let passed = opened .before in
+    let judged = passed .before in
+    let given = judged .before .before in
+    let a = given .before .before .before .args in
+    let e = judged .images-refusal .ensures ∙ (λ i. imagesRefusal (given .read-given .ensures i .refusal) (judged .before .length-refusal .ensures i)) in
+    let r = open-good (a .settings .now) (a .state .now) _ (sym e ∙ passed .if1 .left) (sym (opened .«open» .ensures .0 ∙ ap openOf (λ i. given .read-given .ensures i .given)) ∙ told .enum-told2 .given .1) in
+    (r .0, c .before .before .clear .ensures ∙ r .1)
 
 pub pressgully-open-spec : {M : Type 1} → statement M
 pressgully-open-spec =
@@ -68,8 +69,7 @@ pressgully-open-spec =
     open-requires
     enum-told
     returns-2
-    enum-known-s
-    open-state-requires
-    write-state-requires
+    enum-told-2
+    clear-requires
     same-length
     returns-3)
