@@ -5,6 +5,9 @@
  * A buffer is a pointer and its length, in elements. The pointer is never NULL, also where the length is 0, is aligned for its elements, and
  * no two buffers of a call overlap; that much, and that the elements are there, is all that is asked of a caller.
  *
+ * A tick is done in the state's own buffer, step by step, so that a call needs little stack (docs/COST.md has each call's). While a call runs,
+ * the buffer is between two states: what is to outlast a power cut is copied between calls.
+ *
  * Each call answers 0 or the number of a refusal; the first that applies is given:
  *   20  a settings or state image of a wrong length
  *   21  an impossible image: a field out of its range, an unused byte that is not 0, a day that does not balance, a tracked sum past the

@@ -16,20 +16,17 @@ use Rattle.types.specs.declared.machine.Input.{Input}
 use Rattle.types.specs.declared.machine.Blocked.{Blocked}
 use Rattle.types.specs.declared.machine.BlockAnswer.the-variants as ran
 use Rattle.types.specs.declared.lines.LineTick.{LineTick}
-use Rattle.settings.specs.Held.{Held}
 use Rattle.outline.specs.Limits.{blockLimit}
 use Rattle.outline.specs.Settings.{settingsFit, settingsOf, openOf}
 use Rattle.outline.specs.Numbers.{openingNumber}
-use Rattle.outline.specs.Tick.{openState, nextOf, tickOf, countIn, blockOf, unaskedOf}
+use Rattle.outline.specs.Tick.{nextOf, tickOf, countIn, blockOf, unaskedOf}
 use Rattle.outline.specs.Replies.{askedOf, dueText, lineTickOf}
 use Rattle.outline.proofs.Parts.{clash}
 use Rattle.outline.proofs.LineBytes.{reply-bounded}
-use Rattle.outline.specs.Run.{History, start, _▷_, runOf, runFrom, thenAll, blockInputs, lineInput}
-use Rattle.images.specs.StateImage.{stateLength, imageOf}
-use Rattle.images.specs.GivenImage.{givenImage, givenIn}
-use Rattle.images.specs.declared.state.StateRead.{StateRead}
-use Rattle.images.specs.declared.given.GivenRead.{GivenRead}
-use Rattle.images.specs.Images.{stateIn}
+use Rattle.outline.specs.Run.{History, _▷_, runOf, runFrom, thenAll, blockInputs, lineInput}
+use Rattle.images.specs.StateImage.{imageOf}
+use Rattle.images.specs.GivenImage.{GivenRead, givenImage, givenIn}
+use Rattle.images.specs.Images.{StateRead, stateIn}
 use Rattle.images.specs.Owed.{good}
 use Rattle.images.proofs.GivenTrip.{given-back}
 use Rattle.images.proofs.Trip.{one-image}

@@ -24,10 +24,13 @@ use Rattle.outline.proofs.Parts.{clash}
 use Rattle.places.specs.Places.{sameBytes}
 use Rattle.images.specs.StateImage.{stateLength, imageOf, stateAt}
 use Rattle.images.specs.Possible.{possible}
-use Rattle.images.specs.Images.{stateRefusal, stateIn, written}
-use Rattle.images.specs.GivenImage.{givenIn}
-use Rattle.images.proofs.Tests.{write-good}
+use Rattle.images.specs.Images.{stateRefusal, bytesRefusal, stateIn}
+use Rattle.images.specs.GivenImage.{givenLength, givenImage, givenAt, givenRefusal, givenIn}
 use Rattle.images.proofs.InPlace.{open-holds}
+use Rattle.images.proofs.Trip.{one-image}
+use Rattle.images.proofs.Read.{held-at}
+use Rattle.images.specs.Holds.{Holds}
+use Rattle.places.specs.Places.{Bytes}
 use Rattle.board.specs.AskedBy.{isRequest}
 use Rattle.board.specs.AnswerImage.{answerLength, answerBuffer}
 use Rattle.board.specs.Board.{imagesRefusal, callRefusal, givenBy, settingsBy, stateBy, refusalBy, unless, lengthRefusal, openAnswer, openImage, ifRoom, tickBy, toldOf, tickAnswer, tickImage, tickBuffer, lineBy, lineAnswer, lineImage, lineReply, lineBuffer, blockBy, blockAnswer, blockImage}
@@ -69,18 +72,6 @@ length-passes n = go (eqb n stateLength) refl
     go true e h = eqb-true n stateLength e
     go false e h = absurd (omega arith)
 
-refusal-length : (g : Given) (l : List ℕ) (st : State) → stateRefusal g l st ≡ 0 → length l ≡ stateLength
-unfolding stateRefusal
-refusal-length g l st = go (eqb (length l) stateLength) refl
-  where
-    go : (t : Bool) → eqb (length l) stateLength ≡ t → _≡_ {A = ℕ} (cond t (cond (possible (settingsOf g) st) (cond (sameBytes (imageOf st) l) 0 21) 21) 20) 0 → length l ≡ stateLength
-    go true e h = eqb-true (length l) stateLength e
-    go false e h = absurd (omega arith)
-
-pub image-long : (g : Given) (l : List ℕ) → stateIn g l .refusal ≡ 0 → length l ≡ stateLength
-unfolding stateIn
-image-long g l e = refusal-length g l (stateAt l) e
-
 -- ---- what stands after a refusal, and without one
 module _ {A : Type 0} (r : ℕ) (done kept : A) where
   pub is-kept : (r ≡ 0 → ⊥) → kept ≡ unless r done kept
@@ -116,10 +107,32 @@ same-reply contact receive reply e f h = λ k. replyBuffer (e k) (f k) (h k) con
 pub same-block : {s s′ : Settings} {st st′ : State} (counts : List ℤ) (contact : Bool) → s ≡ s′ → st ≡ st′ → blockOf s st counts contact ≡ blockOf s′ st′ counts contact
 same-block counts contact e f = λ k. blockOf (e k) (f k) counts contact
 
+-- ---- the settings' length
+given-passes : (a b : ℕ) → imagesRefusal a b ≡ 0 → a ≡ 0
+unfolding imagesRefusal
+given-passes a b = go (eqb a 20) (eqb b 20) (eqb a 0) refl
+  where
+    go : (p q r : Bool) → eqb a 0 ≡ r → _≡_ {A = ℕ} (cond p 20 (cond q 20 (cond r b a))) 0 → a ≡ 0
+    go true q r k e = absurd (omega arith)
+    go false true r k e = absurd (omega arith)
+    go false false true k e = eqb-true a 0 k
+    go false false false k e = e
+
+given-long : (l : List ℕ) → givenIn l .refusal ≡ 0 → length l ≡ givenLength
+unfolding givenIn givenRefusal
+given-long l = go (eqb (length l) givenLength) refl
+  where
+    go : (k : Bool) → eqb (length l) givenLength ≡ k → _≡_ {A = ℕ} (cond k (cond (sameBytes (givenImage (givenAt l)) l) 0 21) 20) 0 → length l ≡ givenLength
+    go true k h = eqb-true (length l) givenLength k
+    go false k h = absurd (omega arith)
+
 -- ---- open
 module _ (l t : List ℕ) where
   abbrev whyOpen : ℕ
   whyOpen = imagesRefusal (givenIn l .refusal) (lengthRefusal (length t))
+
+  pub open-given : whyOpen ≡ 0 → length l ≡ givenLength
+  open-given w = given-long l (given-passes (givenIn l .refusal) (lengthRefusal (length t)) w)
 
   pub open-images : (whyOpen ≡ 0 → ⊥) → (whyOpen ≡ openAnswer l (length t)) × (t ≡ openImage l t)
   unfolding openAnswer openImage
@@ -137,14 +150,80 @@ module _ (l t : List ℕ) where
       let e = by-none (givenIn l .refusal) (lengthRefusal (length t)) (givenBy l) s w o in
       (sym e, rw e (ap (λ (k : ℕ). replicate k 0) (length-passes (length t) (state-passes (givenIn l .refusal) (lengthRefusal (length t)) (givenBy l) w)) ∙ sym (open-holds .image)))
 
+-- ---- a state's image is judged by its bytes first, then by what is possible: s is the second, p the test of what is possible, k that of the length
+module _ (a : ℕ) where
+  abbrev byBytes : Bool → Bool → ℕ
+  byBytes k s = cond k (cond s 0 21) 20
+
+  abbrev byBoth : Bool → Bool → Bool → ℕ
+  byBoth k p s = cond k (cond p (cond s 0 21) 21) 20
+
+  bytes-refuse : (k p s : Bool) → (imagesRefusal a (byBytes k s) ≡ 0 → ⊥) → imagesRefusal a (byBoth k p s) ≡ imagesRefusal a (byBytes k s)
+  unfolding imagesRefusal
+  bytes-refuse false p s n = refl
+  bytes-refuse true true s n = refl
+  bytes-refuse true false false n = refl
+  bytes-refuse true false true n = go (eqb a 20) (eqb a 0) n
+    where
+      go : (x z : Bool) → (_≡_ {A = ℕ} (cond x 20 (cond z 0 a)) 0 → ⊥) → _≡_ {A = ℕ} (cond x 20 (cond z 21 a)) (cond x 20 (cond z 0 a))
+      go true z h = refl
+      go false true h = absurd (h refl)
+      go false false h = refl
+
+  bytes-pass : (k p s : Bool) → imagesRefusal a (byBytes k s) ≡ 0 → imagesRefusal a (byBoth k p s) ≡ cond p 0 21
+  unfolding imagesRefusal
+  bytes-pass k true s e = e
+  bytes-pass k false s e = go k s (given-passes a (byBytes k s) e) e
+    where
+      go : (k s : Bool) → a ≡ 0 → imagesRefusal a (byBytes k s) ≡ 0 → imagesRefusal a (byBoth k false s) ≡ 21
+      go false s z h = absurd (omega (arith, h, ap (λ (n : ℕ). imagesRefusal n 20) z))
+      go true s z h = simp z
+
 -- ---- the calls that read both images
 module _ (l t : List ℕ) where
   abbrev why : ℕ
   why = imagesRefusal (givenIn l .refusal) (stateIn (givenBy l) t .refusal)
 
-  pub both-images : (why ≡ 0 → ⊥) → refusalBy l t ≡ why
+  -- what the lengths and the bytes are refused with
+  abbrev first : ℕ
+  first = imagesRefusal (givenIn l .refusal) (bytesRefusal t)
+
+  abbrev canBe : Bool
+  canBe = possible (settingsBy l) (stateAt t)
+
+  first-refuses : (first ≡ 0 → ⊥) → why ≡ first
+  unfolding bytesRefusal stateIn stateRefusal
+  first-refuses n = bytes-refuse (givenIn l .refusal) (eqb (length t) stateLength) canBe (sameBytes (imageOf (stateAt t)) t) n
+
+  first-passes : first ≡ 0 → why ≡ cond canBe 0 21
+  unfolding bytesRefusal stateIn stateRefusal
+  first-passes e = bytes-pass (givenIn l .refusal) (eqb (length t) stateLength) canBe (sameBytes (imageOf (stateAt t)) t) e
+
+  pub first-given : first ≡ 0 → length l ≡ givenLength
+  first-given e = given-long l (given-passes (givenIn l .refusal) (bytesRefusal t) e)
+
+  pub first-state : first ≡ 0 → length t ≡ stateLength
+  unfolding bytesRefusal
+  first-state e = go (eqb (length t) stateLength) refl (state-passes (givenIn l .refusal) (bytesRefusal t) (givenBy l) e)
+    where
+      go : (k : Bool) → eqb (length t) stateLength ≡ k → _≡_ {A = ℕ} (cond k (cond (sameBytes (imageOf (stateAt t)) t) 0 21) 20) 0 → length t ≡ stateLength
+      go true k h = eqb-true (length t) stateLength k
+      go false k h = absurd (omega arith)
+
+  both-images : (why ≡ 0 → ⊥) → refusalBy l t ≡ why
   unfolding refusalBy
   both-images n = by-images (givenIn l .refusal) (stateIn (givenBy l) t .refusal) (givenBy l) n
+
+  pub by-bytes : (first ≡ 0 → ⊥) → refusalBy l t ≡ first
+  by-bytes n = both-images (λ e. n (sym (first-refuses n) ∙ e)) ∙ first-refuses n
+
+  pub by-ranges : first ≡ 0 → canBe ≡ false → refusalBy l t ≡ 21
+  by-ranges e p =
+      let w : why ≡ 21 = first-passes e ∙ ap (λ (b : Bool). cond b 0 21) p in
+      both-images (λ h. absurd (omega (arith, w, h))) ∙ w
+
+  pub unrefused : first ≡ 0 → canBe ≡ true → why ≡ 0
+  unrefused e p = first-passes e ∙ ap (λ (b : Bool). cond b 0 21) p
 
   pub both-settings : why ≡ 0 → openOf (givenBy l) ≡ opening.Refused → refusalBy l t ≡ 10
   unfolding refusalBy
@@ -154,8 +233,10 @@ module _ (l t : List ℕ) where
   unfolding refusalBy
   both-good s w o = by-none (givenIn l .refusal) (stateIn (givenBy l) t .refusal) (givenBy l) s w o
 
-  pub state-long : why ≡ 0 → length t ≡ stateLength
-  state-long w = image-long (givenBy l) t (state-passes (givenIn l .refusal) (stateIn (givenBy l) t .refusal) (givenBy l) w)
+  -- the buffer holds the state that is read from it
+  pub state-held : Bytes t → why ≡ 0 → Holds t (stateBy l t)
+  unfolding stateIn
+  state-held b w = record { image = one-image (givenBy l) t (state-passes (givenIn l .refusal) (stateIn (givenBy l) t .refusal) (givenBy l) w); held = held-at t b }
 
   -- a tick
   module _ (count : ℤ) (contact : Bool) (n : ℕ) (points answer : List ℕ) where
@@ -164,13 +245,13 @@ module _ (l t : List ℕ) where
     unfolding tickAnswer tickImage tickBuffer
     tick-kept r e k = rw e (is-kept r _ r k, is-kept r _ t k, is-kept r _ answer k)
 
-    pub tick-done : refusalBy l t ≡ 0 → length t ≡ stateLength →
+    pub tick-done : refusalBy l t ≡ 0 →
         let a = tickBy l t count contact n points in
         (ifRoom answer (toldOf (isRequest n points) a) 14 ≡ tickAnswer l t count contact n points answer)
-        × (ifRoom answer (written (a .state) t) t ≡ tickImage l t count contact n points answer)
+        × (ifRoom answer (imageOf (a .state)) t ≡ tickImage l t count contact n points answer)
         × (ifRoom answer (answerBuffer (toldOf (isRequest n points) a) 0 (a .answer) answer) answer ≡ tickBuffer l t count contact n points answer)
     unfolding tickAnswer tickImage tickBuffer
-    tick-done e k = rw (e, sym (write-good (tickBy l t count contact n points .state) t k)) (refl, refl, refl)
+    tick-done e = rw e (refl, refl, refl)
 
   -- a tick with a line
   module _ (count : ℤ) (contact : Bool) (receive reply answer : List ℕ) where
@@ -182,14 +263,14 @@ module _ (l t : List ℕ) where
     unfolding lineAnswer lineImage lineReply lineBuffer
     line-kept r e k = rw e (is-kept r _ r k, is-kept r _ t k, is-kept r _ reply k, is-kept r _ answer k)
 
-    pub line-done : refusalBy l t ≡ 0 → length t ≡ stateLength →
+    pub line-done : refusalBy l t ≡ 0 →
         let a = lineBy l t count contact receive reply in
         (ifRoom answer (toldNumber (a .told)) 14 ≡ lineAnswer l t count contact receive reply answer)
-        × (ifRoom answer (written (a .state) t) t ≡ lineImage l t count contact receive reply answer)
+        × (ifRoom answer (imageOf (a .state)) t ≡ lineImage l t count contact receive reply answer)
         × (ifRoom answer (replyBuffer (settingsBy l) (stateBy l t) count contact receive reply) reply ≡ lineReply l t count contact receive reply answer)
         × (ifRoom answer (answerBuffer (toldNumber (a .told)) (a .length) (a .answer) answer) answer ≡ lineBuffer l t count contact receive reply answer)
     unfolding lineAnswer lineImage lineReply lineBuffer
-    line-done e k = rw (e, sym (write-good (lineBy l t count contact receive reply .state) t k)) (refl, refl, refl, refl)
+    line-done e = rw e (refl, refl, refl, refl)
 
   -- a block
   module _ (counts : List ℤ) (contact : Bool) where
@@ -197,8 +278,8 @@ module _ (l t : List ℕ) where
     unfolding blockAnswer blockImage
     block-kept r e k = rw e (is-kept r _ r k, is-kept r _ t k)
 
-    pub block-done : refusalBy l t ≡ 0 → length t ≡ stateLength →
+    pub block-done : refusalBy l t ≡ 0 →
         let b = blockBy l t counts contact in
-        (blockNumber (b .answer) ≡ blockAnswer l t counts contact) × (written (b .state) t ≡ blockImage l t counts contact)
+        (blockNumber (b .answer) ≡ blockAnswer l t counts contact) × (imageOf (b .state) ≡ blockImage l t counts contact)
     unfolding blockAnswer blockImage
-    block-done e k = rw (e, sym (write-good (blockBy l t counts contact .state) t k)) (refl, refl)
+    block-done e = rw e (refl, refl)

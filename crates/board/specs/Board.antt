@@ -7,6 +7,7 @@ use lib.ListN.{length}
 use lib.IntN.{ℤ}
 use Rattle.types.specs.declared.settings.Given.{Given}
 use Rattle.types.specs.declared.settings.Settings.{Settings}
+use Rattle.types.specs.declared.requests.Request.{Request}
 use Rattle.types.specs.declared.machine.State.{State}
 use Rattle.types.specs.declared.machine.Input.{Input}
 use Rattle.types.specs.declared.machine.Blocked.{Blocked}
@@ -61,8 +62,11 @@ openImage l t = unless (openAnswer l (length t)) (imageOf openState) t
 abbrev pub ifRoom : {A : Type 0} → List ℕ → A → A → A
 ifRoom answer done kept = cond (leb answerLength (length answer)) done kept
 
+abbrev pub inputOf : ℤ → Bool → Request → Input
+inputOf count contact request = record { count = count; contact = contact; request = request }
+
 abbrev pub inputBy : ℤ → Bool → ℕ → List ℕ → Input
-inputBy count contact n points = record { count = count; contact = contact; request = requestBy n points }
+inputBy count contact n points = inputOf count contact (requestBy n points)
 
 unfoldable pub tickBy : List ℕ → List ℕ → ℤ → Bool → ℕ → List ℕ → Ticked
 tickBy l t count contact n points = tickOf (settingsBy l) (stateBy l t) (inputBy count contact n points)

@@ -1,4 +1,5 @@
 pub mod AskedBy
 pub mod AnswerImage
+pub mod InPlace
 pub mod Board
 pub mod Owed

@@ -2,13 +2,14 @@
 ghost use mathlib.Core.Path.{_≡_};
 ghost use Rattle.places.specs.Places.{putAll};
 ghost use Rattle.outline.specs.Numbers.{analogNumber};
-ghost use Rattle.board.specs.AnswerImage.{weightRows, weightNumbers, gateRows, gateNumbers, signalRows, signalNumbers, lengthByte, closedFlag, partRows, partNumbers, grossRows, grossNumbers, closedBook, dayRows, dayNumbers, floatBits, analogBits, valueRows, valueNumbers, answerBuffer};
+ghost use Rattle.types.specs.declared.daybook.Closed.the-variants as Closed;
+ghost use Rattle.board.specs.AnswerImage.{weightRows, weightNumbers, gateRows, gateNumbers, signalRows, signalNumbers, lengthByte, grossRows, grossNumbers, floatBits, analogBits, valueRows, valueNumbers};
+ghost use Rattle.board.specs.InPlace.{besideRows, besideNumbers, closedPut, outputsPut};
 use numbers::error_number;
 use numbers::judgement_number;
 use numbers::stage_number;
 use types::analog::Analog;
 use types::daybook::Book;
-use types::daybook::Closed;
 use types::machine::Answer;
 use types::machine::Reading;
 use types::stages::Gates;
@@ -53,15 +54,6 @@ fn analog_number(a: Analog) -> u8
     }
 }
 
-fn is_closed(c: Closed) -> bool
-    ensures { λ r. ⌜ r ≡ closedFlag c ⌝ }
-{
-    match c {
-        Closed::Nothing => false,
-        Closed::Day(_) => true,
-    }
-}
-
 // No reply has as many bytes as 256.
 fn length_byte(n: usize) -> u8
     ensures { λ r. ⌜ r ≡ lengthByte n ⌝ }
@@ -72,13 +64,11 @@ fn length_byte(n: usize) -> u8
     255
 }
 
-fn put_parts(s: &mut [u8], length: usize, a: Answer)
-    ensures { λ _. ⌜ now (s .exit) ≡ putAll partRows (partNumbers length a) (now (s .entry)) ⌝ }
+fn put_beside(s: &mut [u8], length: usize, a: Answer)
+    ensures { λ _. ⌜ now (s .exit) ≡ putAll besideRows (besideNumbers length a) (now (s .entry)) ⌝ }
 {
     let analog = a.analog;
-    let closed = a.closed;
     places::put_u8(s, 13, analog_number(analog));
-    places::put_flag(s, 14, is_closed(closed));
     places::put_u8(s, 15, length_byte(length));
 }
 
@@ -89,19 +79,23 @@ fn put_gross(s: &mut [u8], x: Reading)
     places::put_i32(s, 20, x.net);
 }
 
-// All 0 where no day was closed.
-fn closed_book(c: Closed) -> Book
-    ensures { λ r. ⌜ r ≡ closedBook c ⌝ }
+// That no day was closed: 0 in each of its places.
+pub(crate) fn put_none(s: &mut [u8])
+    ensures { λ _. ⌜ now (s .exit) ≡ closedPut Closed.Nothing (now (s .entry)) ⌝ }
 {
-    match c {
-        Closed::Nothing => daybook::open_book(),
-        Closed::Day(b) => b,
-    }
+    places::put_flag(s, 14, false);
+    places::put_i32(s, 24, 0);
+    places::put_i32(s, 28, 0);
+    places::put_i64(s, 32, 0);
+    places::put_i64(s, 40, 0);
+    places::put_i64(s, 48, 0);
 }
 
-fn put_day(s: &mut [u8], b: Book)
-    ensures { λ _. ⌜ now (s .exit) ≡ putAll dayRows (dayNumbers b) (now (s .entry)) ⌝ }
+// That the day b was closed.
+pub(crate) fn put_day(s: &mut [u8], b: Book)
+    ensures { λ _. ⌜ now (s .exit) ≡ closedPut (Closed.Day b) (now (s .entry)) ⌝ }
 {
+    places::put_flag(s, 14, true);
     places::put_i32(s, 24, b.opening);
     places::put_i32(s, 28, b.last);
     places::put_i64(s, 32, b.refilled);
@@ -136,17 +130,15 @@ fn put_value(s: &mut [u8], a: Answer)
     places::put_u64(s, 56, analog_bits(analog));
 }
 
-// n: what the call answers; length: the reply's. A byte past the end of the buffer is not written.
-pub(crate) fn put_answer(s: &mut [u8], n: u8, length: usize, a: Answer)
-    ensures { λ _. ⌜ now (s .exit) ≡ answerBuffer n length a (now (s .entry)) ⌝ }
+// All but the closed day. n: what the call answers; length: the reply's. A byte past the end of the buffer is not written.
+pub(crate) fn put_outputs(s: &mut [u8], n: u8, length: usize, a: Answer)
+    ensures { λ _. ⌜ now (s .exit) ≡ outputsPut n length a (now (s .entry)) ⌝ }
 {
     let stage = a.stage;
-    let closed = a.closed;
     put_weights(s, n, a.reading);
     put_gates(s, stage_number(stage), a.gates);
     put_signals(s, a);
-    put_parts(s, length, a);
+    put_beside(s, length, a);
     put_gross(s, a.reading);
-    put_day(s, closed_book(closed));
     put_value(s, a);
 }

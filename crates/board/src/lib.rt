@@ -1,47 +1,49 @@
 // The calls of board/pressgully.h. Between them nothing is kept: the state lies in the caller's 256 bytes, the settings in the caller's 128.
-// Each call reads both images, judges them, runs its ticks and writes the state's image; a refused one changes no byte of any buffer.
+// Each call judges both images by their bytes and runs its ticks in the buffer of the state; a refused one changes no byte of any buffer.
 ghost use mathlib.Core.Path.{_≡_};
 ghost use mathlib.Core.Bool.{cond};
 ghost use lib.ListN.{length};
 ghost use Rattle.outline.specs.Numbers.{outcomeNumber, blockNumber, toldNumber};
+ghost use Rattle.outline.specs.Settings.{openOf};
 ghost use Rattle.outline.specs.Tick.{tickOf, blockOf};
 ghost use Rattle.outline.specs.Replies.{lineTickOf, replyBuffer};
-ghost use Rattle.images.specs.GivenImage.{givenIn};
-ghost use Rattle.images.specs.Images.{stateIn, written};
+ghost use Rattle.images.specs.GivenImage.{givenLength, givenIn};
+ghost use Rattle.types.specs.declared.machine.State.{State};
+ghost use Rattle.images.specs.StateImage.{imageOf};
+ghost use Rattle.images.specs.Images.{bytesRefusal};
+ghost use Rattle.images.specs.Holds.{Tells};
 ghost use Rattle.board.specs.AnswerImage.{answerBuffer};
 ghost use Rattle.board.specs.Owed.{CallsAreTicks, OpensARun, CallsAreRuns, LengthTold};
-ghost use Rattle.board.specs.Board.{imagesRefusal, givenBy, stateBy, lengthRefusal, openAnswer, openImage, ifRoom, toldOf, tickAnswer, tickImage, tickBuffer, lineAnswer, lineImage, lineReply, lineBuffer, blockAnswer, blockImage};
-use answer::put_answer;
+ghost use Rattle.board.specs.Board.{imagesRefusal, givenBy, lengthRefusal, openAnswer, openImage, ifRoom, inputOf, toldOf, tickAnswer, tickImage, tickBuffer, lineAnswer, lineImage, lineReply, lineBuffer, blockAnswer, blockImage};
+use answer::put_none;
 use asked::is_request;
 use asked::request_by;
+use commands::command_of;
 use controller::opening::open;
-use images::given::read_given;
-use images::state::read_state;
-use images::state::write_state;
+use images::given::given_at;
+use images::given::given_refusal;
+use images::possible::is_possible;
+use images::state::bytes_refusal;
 use numbers::outcome_number;
 use numbers::told_number;
-use types::machine::BlockAnswer;
-use types::machine::Input;
-use types::machine::State;
+use replies::Wrote;
+use replies::due::request_of;
+use replies::due::told_of;
 use types::requests::Outcome;
-use types::settings::Given;
+use types::requests::Request;
 use types::settings::Opening;
 use types::settings::Settings;
 
 mod answer;
 mod asked;
+mod steps;
 
 // The bytes of a state image, and of an answer.
 const STATE_LENGTH: usize = 256;
 
 const ANSWER_LENGTH: usize = 64;
 
-// What both images are refused with, or 0; the settings as they are given, and the state.
-struct Images {
-    refusal: u8,
-    given: Given,
-    state: State,
-}
+const BLOCK_LIMIT: usize = 4_096;
 
 // A wrong length comes first; a: of the settings, b: of the state.
 fn images_refusal(a: u8, b: u8) -> u8
@@ -59,21 +61,17 @@ fn images_refusal(a: u8, b: u8) -> u8
     a
 }
 
-fn read_images(settings: &[u8], state: &[u8]) -> Images
-    ensures refusal { λ r. ⌜ r .refusal ≡ imagesRefusal (givenIn (now (settings .entry)) .refusal) (stateIn (givenBy (now (settings .entry))) (now (state .entry)) .refusal) ⌝ }
-    ensures given { λ r. ⌜ r .given ≡ givenBy (now (settings .entry)) ⌝ }
-    ensures state { λ r. ⌜ r .state ≡ stateBy (now (settings .entry)) (now (state .entry)) ⌝ }
+// What both images are refused with for their lengths and bytes, or 0.
+fn judged(settings: &[u8], state: &[u8]) -> u8
+    ensures { λ r. ⌜ r ≡ imagesRefusal (givenIn (now (settings .entry)) .refusal) (bytesRefusal (now (state .entry))) ⌝ }
 {
-    let g = read_given(settings);
-    let given = g.given;
-    let st = read_state(given, state);
-    let refusal = images_refusal(g.refusal, st.refusal);
-    let read = st.state;
-    Images {
-        refusal,
-        given,
-        state: read,
-    }
+    images_refusal(given_refusal(settings), bytes_refusal(state))
+}
+
+fn opened(settings: &[u8]) -> Opening
+    ensures { λ r. ⌜ (length (now (settings .entry)) ≡ givenLength → r ≡ openOf (givenBy (now (settings .entry)))) ⌝ }
+{
+    open(given_at(settings))
 }
 
 fn length_refusal(n: usize) -> u8
@@ -91,13 +89,12 @@ pub extern "C" fn pressgully_open(settings: &[u8], state: &mut [u8]) -> u32
     ensures told { λ r. ⌜ r ≡ openAnswer (now (settings .entry)) (length (now (state .entry))) ⌝ }
     ensures image { λ _. ⌜ now (state .exit) ≡ openImage (now (settings .entry)) (now (state .entry)) ⌝ }
 {
-    let g = read_given(settings);
     let n = state.len();
-    let why = images_refusal(g.refusal, length_refusal(n));
+    let why = images_refusal(given_refusal(settings), length_refusal(n));
     if why != 0 {
         return why as u32;
     }
-    match open(g.given) {
+    match opened(settings) {
         Opening::Refused => return 10,
         Opening::Accepted(_) => {
             // every byte of the opening state's image is 0
@@ -117,28 +114,36 @@ fn told_by(known: bool, outcome: Outcome) -> u8
     13
 }
 
-// The tick of images that were read; known: its request has a number.
+// The tick of a buffer that holds a state, in the outline's order; known: its request has a number.
 fn run_tick(
     s: Settings,
-    st: State,
-    i: Input,
+    count: i32,
+    contact: bool,
+    request: Request,
     known: bool,
     state: &mut [u8],
     answer: &mut [u8],
 ) -> u32
-    ensures told { λ r. ⌜ r ≡ ifRoom (now (answer .entry)) (toldOf known (tickOf s st i)) 14 ⌝ }
-    ensures image { λ _. ⌜ now (state .exit) ≡ ifRoom (now (answer .entry)) (written (tickOf s st i .state) (now (state .entry))) (now (state .entry)) ⌝ }
-    ensures outputs { λ _. ⌜ now (answer .exit) ≡ ifRoom (now (answer .entry)) (answerBuffer (toldOf known (tickOf s st i)) 0 (tickOf s st i .answer) (now (answer .entry))) (now (answer .entry)) ⌝ }
+    ensures told { λ r. ⌜ Tells (now (state .entry)) (λ (st : State). r ≡ ifRoom (now (answer .entry)) (toldOf known (tickOf s st (inputOf count contact request))) 14) ⌝ }
+    ensures image { λ _. ⌜ Tells (now (state .entry)) (λ (st : State). now (state .exit) ≡ ifRoom (now (answer .entry)) (imageOf (tickOf s st (inputOf count contact request) .state)) (now (state .entry))) ⌝ }
+    ensures outputs { λ _. ⌜ Tells (now (state .entry)) (λ (st : State). now (answer .exit) ≡ ifRoom (now (answer .entry)) (answerBuffer (toldOf known (tickOf s st (inputOf count contact request))) 0 (tickOf s st (inputOf count contact request) .answer) (now (answer .entry))) (now (answer .entry))) ⌝ }
 {
     if answer.len() < ANSWER_LENGTH {
         return 14;
     }
-    let t = controller::tick(s, st, i);
-    let a = t.answer;
-    let outcome = a.outcome;
+    // 1. to 3. Raw, day book, weights.
+    let mut x = steps::enter(s, count, contact, state);
+    // 4. The tick's request, and the weights again, with the zero and the tare that it leaves.
+    let outcome = steps::ruled(s, x, request, state);
+    let done = requests::granted(outcome, request);
+    steps::settle(done, x, state, answer);
+    x = steps::again(s, x, state);
+    // 5. Tracking.
+    steps::track(s, steps::is_keyed(done), x, state);
+    // 6. Sequence, passed over after an accepted start or discharge, or a stop.
+    steps::step(s, steps::is_held(done), x, state);
     let told = told_by(known, outcome);
-    write_state(t.state, state);
-    put_answer(answer, told, 0, t.answer);
+    steps::answer(s, outcome, told, 0, x, state, answer);
     told as u32
 }
 
@@ -157,29 +162,27 @@ pub extern "C" fn pressgully_tick(
     ensures image { λ _. ⌜ now (state .exit) ≡ tickImage (now (settings .entry)) (now (state .entry)) count contact request (now (points .entry)) (now (answer .entry)) ⌝ }
     ensures outputs { λ _. ⌜ now (answer .exit) ≡ tickBuffer (now (settings .entry)) (now (state .entry)) count contact request (now (points .entry)) (now (answer .entry)) ⌝ }
 {
-    let images = read_images(settings, state);
-    let why = images.refusal;
+    let why = judged(settings, state);
     if why != 0 {
         return why as u32;
     }
-    match open(images.given) {
+    if !is_possible(settings, state) {
+        return 21;
+    }
+    match opened(settings) {
         Opening::Refused => return 10,
         Opening::Accepted(s) => {
             let known = is_request(request, points);
-            let i = Input {
-                count,
-                contact,
-                request: request_by(request, points),
-            };
-            return run_tick(s, images.state, i, known, state, answer);
+            let asked = request_by(request, points);
+            return run_tick(s, count, contact, asked, known, state, answer);
         }
     }
 }
 
-// The tick with a line of images that were read.
+// The tick with a line, in the same order. The reply is written after the ruling, before anything is done: a read shows the state as step 4 leaves
+// it, and asks for nothing.
 fn run_line(
     s: Settings,
-    st: State,
     count: i32,
     contact: bool,
     receive: &[u8],
@@ -187,20 +190,42 @@ fn run_line(
     state: &mut [u8],
     answer: &mut [u8],
 ) -> u32
-    ensures told { λ r. ⌜ r ≡ ifRoom (now (answer .entry)) (toldNumber (lineTickOf s st count contact (now (receive .entry)) (now (reply .entry)) .told)) 14 ⌝ }
-    ensures image { λ _. ⌜ now (state .exit) ≡ ifRoom (now (answer .entry)) (written (lineTickOf s st count contact (now (receive .entry)) (now (reply .entry)) .state) (now (state .entry))) (now (state .entry)) ⌝ }
-    ensures replied { λ _. ⌜ now (reply .exit) ≡ ifRoom (now (answer .entry)) (replyBuffer s st count contact (now (receive .entry)) (now (reply .entry))) (now (reply .entry)) ⌝ }
-    ensures outputs { λ _. ⌜ now (answer .exit) ≡ ifRoom (now (answer .entry)) (answerBuffer (toldNumber (lineTickOf s st count contact (now (receive .entry)) (now (reply .entry)) .told)) (lineTickOf s st count contact (now (receive .entry)) (now (reply .entry)) .length) (lineTickOf s st count contact (now (receive .entry)) (now (reply .entry)) .answer) (now (answer .entry))) (now (answer .entry)) ⌝ }
+    ensures told { λ r. ⌜ Tells (now (state .entry)) (λ (st : State). r ≡ ifRoom (now (answer .entry)) (toldNumber (lineTickOf s st count contact (now (receive .entry)) (now (reply .entry)) .told)) 14) ⌝ }
+    ensures image { λ _. ⌜ Tells (now (state .entry)) (λ (st : State). now (state .exit) ≡ ifRoom (now (answer .entry)) (imageOf (lineTickOf s st count contact (now (receive .entry)) (now (reply .entry)) .state)) (now (state .entry))) ⌝ }
+    ensures replied { λ _. ⌜ Tells (now (state .entry)) (λ (st : State). now (reply .exit) ≡ ifRoom (now (answer .entry)) (replyBuffer s st count contact (now (receive .entry)) (now (reply .entry))) (now (reply .entry))) ⌝ }
+    ensures outputs { λ _. ⌜ Tells (now (state .entry)) (λ (st : State). now (answer .exit) ≡ ifRoom (now (answer .entry)) (answerBuffer (toldNumber (lineTickOf s st count contact (now (receive .entry)) (now (reply .entry)) .told)) (lineTickOf s st count contact (now (receive .entry)) (now (reply .entry)) .length) (lineTickOf s st count contact (now (receive .entry)) (now (reply .entry)) .answer) (now (answer .entry))) (now (answer .entry))) ⌝ }
 {
     if answer.len() < ANSWER_LENGTH {
         return 14;
     }
-    let t = serial::line_tick(s, st, count, contact, receive, reply);
-    let told = t.told;
-    let n = told_number(told);
-    write_state(t.state, state);
-    put_answer(answer, n, t.length, t.answer);
-    n as u32
+    let command = command_of(receive, s.address);
+    let request = request_of(command);
+    // 1. to 3. Raw, day book, weights.
+    let mut x = steps::enter(s, count, contact, state);
+    let outcome = steps::ruled(s, x, request, state);
+    match steps::reply(s, command, outcome, x, state, reply) {
+        Wrote::Bytes(length) => {
+            // 4. The line's request.
+            let done = requests::granted(outcome, request);
+            steps::settle(done, x, state, answer);
+            x = steps::again(s, x, state);
+            // 5. Tracking.
+            steps::track(s, steps::is_keyed(done), x, state);
+            // 6. Sequence.
+            steps::step(s, steps::is_held(done), x, state);
+            let n = told_number(told_of(command, outcome));
+            steps::answer(s, outcome, n, length, x, state, answer);
+            return n as u32;
+        }
+        Wrote::Short => {
+            // The reply does not fit: a tick without a request.
+            put_none(answer);
+            steps::track(s, false, x, state);
+            steps::step(s, false, x, state);
+            steps::answer(s, Outcome::Done, 14, 0, x, state, answer);
+            return 14;
+        }
+    }
 }
 
 // One tick with a receive buffer, whose line it obeys. The reply's length stands in the answer.
@@ -219,40 +244,38 @@ pub extern "C" fn pressgully_line(
     ensures replied { λ _. ⌜ now (reply .exit) ≡ lineReply (now (settings .entry)) (now (state .entry)) count contact (now (receive .entry)) (now (reply .entry)) (now (answer .entry)) ⌝ }
     ensures outputs { λ _. ⌜ now (answer .exit) ≡ lineBuffer (now (settings .entry)) (now (state .entry)) count contact (now (receive .entry)) (now (reply .entry)) (now (answer .entry)) ⌝ }
 {
-    let images = read_images(settings, state);
-    let why = images.refusal;
+    let why = judged(settings, state);
     if why != 0 {
         return why as u32;
     }
-    match open(images.given) {
+    if !is_possible(settings, state) {
+        return 21;
+    }
+    match opened(settings) {
         Opening::Refused => return 10,
         Opening::Accepted(s) => {
-            return run_line(
-                s,
-                images.state,
-                count,
-                contact,
-                receive,
-                reply,
-                state,
-                answer,
-            );
+            return run_line(s, count, contact, receive, reply, state, answer);
         }
     }
 }
 
-// The block of images that were read.
-fn run_block(s: Settings, st: State, counts: &[i32], contact: bool, state: &mut [u8]) -> u32
-    ensures told { λ r. ⌜ r ≡ blockNumber (blockOf s st (now (counts .entry)) contact .answer) ⌝ }
-    ensures image { λ _. ⌜ now (state .exit) ≡ written (blockOf s st (now (counts .entry)) contact .state) (now (state .entry)) ⌝ }
+// The counts of a block, one tick after the other, in the buffer of the state.
+fn run_block(s: Settings, counts: &[i32], contact: bool, state: &mut [u8]) -> u32
+    ensures told { λ r. ⌜ Tells (now (state .entry)) (λ (st : State). r ≡ blockNumber (blockOf s st (now (counts .entry)) contact .answer)) ⌝ }
+    ensures image { λ _. ⌜ Tells (now (state .entry)) (λ (st : State). now (state .exit) ≡ imageOf (blockOf s st (now (counts .entry)) contact .state)) ⌝ }
 {
-    let b = controller::block::run_block(s, st, counts, contact);
-    let answer = b.answer;
-    write_state(b.state, state);
-    match answer {
-        BlockAnswer::Run => 0,
-        BlockAnswer::TooLong => 15,
+    if BLOCK_LIMIT < counts.len() {
+        return 15;
     }
+    let mut i = 0;
+    while i < counts.len() {
+        let count = counts[i];
+        let x = steps::enter(s, count, contact, state);
+        steps::track(s, false, x, state);
+        steps::step(s, false, x, state);
+        i += 1;
+    }
+    0
 }
 
 // A block of counts, one tick each, with one contact and no requests.
@@ -266,14 +289,16 @@ pub extern "C" fn pressgully_block(
     ensures told { λ r. ⌜ r ≡ blockAnswer (now (settings .entry)) (now (state .entry)) (now (counts .entry)) contact ⌝ }
     ensures image { λ _. ⌜ now (state .exit) ≡ blockImage (now (settings .entry)) (now (state .entry)) (now (counts .entry)) contact ⌝ }
 {
-    let images = read_images(settings, state);
-    let why = images.refusal;
+    let why = judged(settings, state);
     if why != 0 {
         return why as u32;
     }
-    match open(images.given) {
+    if !is_possible(settings, state) {
+        return 21;
+    }
+    match opened(settings) {
         Opening::Refused => return 10,
-        Opening::Accepted(s) => return run_block(s, images.state, counts, contact, state),
+        Opening::Accepted(s) => return run_block(s, counts, contact, state),
     }
 }
 

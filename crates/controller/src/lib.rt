@@ -17,7 +17,7 @@ use types::weight::Panel;
 
 pub mod block;
 pub mod opening;
-mod outputs;
+pub mod outputs;
 pub mod unasked;
 
 // One tick, in the outline's order. A tick that asks nothing may be had cheaper: `unasked::unasked_tick`.

@@ -10,7 +10,7 @@ use types::requests::Outcome;
 use types::settings::Settings;
 use types::weight::Weights;
 
-fn reading(x: Weights) -> Reading
+pub fn reading(x: Weights) -> Reading
     ensures { λ r. ⌜ r ≡ readingOf x ⌝ }
 {
     Reading {
@@ -23,13 +23,7 @@ fn reading(x: Weights) -> Reading
 }
 
 // Every output; `st` is the state after step 6, which leaves the display as step 4 did.
-pub(crate) fn outputs(
-    s: Settings,
-    outcome: Outcome,
-    closed: Closed,
-    x: Weights,
-    st: State,
-) -> Answer
+pub fn outputs(s: Settings, outcome: Outcome, closed: Closed, x: Weights, st: State) -> Answer
     ensures { λ r. ⌜ r ≡ outputsOf s (answeredOf outcome closed st) x st ⌝ }
 {
     let batching = s.batching;

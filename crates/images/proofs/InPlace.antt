@@ -1,7 +1,7 @@
 -- A part of a state written in its place: a buffer that held the state holds it with this part made anew. Assumes nothing.
 use Prim.Native.Nat.{ℕ, _^_, _<_}
 use mathlib.Core.Path.{_≡_, refl, sym, ap, _∙_}
-use mathlib.Core.List.{List, [], _∷_, _++_}
+use mathlib.Core.List.{List, [], _++_}
 use native.Mathlib.Omega.{arith}
 use lib.IntN.{pos}
 use lib.ListN.{length, replicate}
@@ -9,7 +9,7 @@ use mir.Syntax.{w32, w64}
 use mir.Val.{SFits}
 use Rattle.outline.specs.Tick.{openState}
 use Rattle.whole.specs.Machine.{sfits-of}
-use Rattle.places.specs.Places.{Place, putBe, putAll, coded, flagTag}
+use Rattle.places.specs.Places.{putBe, putAll, coded, flagTag}
 use Rattle.places.proofs.Anew.{part-anew}
 use Rattle.types.specs.declared.daybook.Book.{Book}
 use Rattle.types.specs.declared.weight.Stability.{Stability}
@@ -20,8 +20,16 @@ use Rattle.types.specs.declared.stages.Sequence.{Sequence}
 use Rattle.types.specs.declared.stages.Totals.{Totals}
 use Rattle.types.specs.declared.machine.State.{State}
 use Rattle.outline.specs.Parts.{withBook, withStability, withWeighing, withSetpoints, withSequence, withTotals}
-use Rattle.images.specs.StateImage.{displayNumber, stageTimer, backTag, backWeight, stateLength, bookRows, bookNumbers, stabilityRows, stabilityNumbers, weighingRows, weighingNumbers, panelRows, panelNumbers, setpointRows, setpointNumbers, sequenceRows, sequenceNumbers, totalsRows, totalsNumbers, putState, imageOf}
+use Rattle.images.specs.StateImage.{displayNumber, stageTimer, backTag, backWeight, stateLength, bookRows, bookNumbers, stabilityRows, stabilityNumbers, weighingRows, weighingNumbers, panelRows, panelNumbers, setpointRows, setpointNumbers, sequenceRows, sequenceNumbers, totalsRows, totalsNumbers, putState, imageOf, stateAt}
+use Rattle.images.proofs.Trip.{image-state, image-length}
 use Rattle.images.specs.Holds.{HeldBook, HeldWeighing, HeldSetpoints, HeldSequence, HeldTotals, HeldState, Holds, Turns, withPanel}
+
+-- a buffer that holds a state has its length, and reads as it
+pub holds-length : {l : List ℕ} {st : State} → Holds l st → length l ≡ stateLength
+holds-length {l} {st} h = ap length (sym (h .image)) ∙ image-length st
+
+pub holds-state : {l : List ℕ} {st : State} → Holds l st → stateAt l ≡ st
+holds-state {l} {st} h = ap stateAt (sym (h .image)) ∙ image-state st (h .held)
 
 -- the bytes that a state is written over
 abbrev blank : List ℕ

@@ -2,14 +2,14 @@
 -- numbered as they stand, what has no use is 0, and so are the bytes that stand in no place. Assumes nothing.
 use Prim.Native.Nat.{ℕ, suc, zero, _^_, _<_}
 use native.Mathlib.Omega.{arith}
-use mathlib.Core.Path.{_≡_, refl, sym, ap, subst, _∙_}
+use mathlib.Core.Path.{_≡_, refl, sym, ap, _∙_}
 use mathlib.Core.Bool.{Bool, true, false, cond, _&&_}
 use mathlib.Core.List.{List, [], _∷_}
 use lib.Dec.{eqb, leb}
 use lib.ListN.{length}
 use mir.Syntax.{w32, w64}
 use borrow.Author.Tests.{eq-eqb, ne-eqb, lt-leb}
-use Rattle.places.specs.Places.{beAt, signed, coded, flagOf, flagTag, getAll, sameBytes, zerosAt, gaps, zerosIn, Bytes, Numbers}
+use Rattle.places.specs.Places.{beAt, signed, coded, flagOf, flagTag, getAll, sameBytes, zerosAt, gaps, zerosIn, Bytes}
 use Rattle.places.proofs.Numbers.{be-lt, coded-signed, signed-fits}
 use Rattle.places.proofs.Again.{again}
 use Rattle.types.specs.declared.weight.Display.the-variants as display
@@ -19,7 +19,8 @@ use Rattle.types.specs.declared.stages.SequenceError.{SequenceError}
 use Rattle.types.specs.declared.stages.Judgement.{Judgement}
 use Rattle.types.specs.declared.stages.Batch.{Batch}
 use Rattle.types.specs.declared.stages.Batch.the-variants as batch
-use Rattle.types.specs.declared.machine.State.{State}
+use Rattle.types.specs.declared.stages.Sequence.{Sequence}
+use Rattle.types.specs.declared.stages.Totals.{Totals}
 use Rattle.outline.specs.Numbers.{stageNumber, errorNumber, judgementNumber}
 use Rattle.settings.specs.Held.{Held}
 use Rattle.images.specs.StateImage.{displayNumber, displayOf, stageOf, stageTimer, backTag, backWeight, backOf, stateLength, stateRows, stateNumbers, putState, imageOf, stateAt}
@@ -140,12 +141,12 @@ display-again (suc (suc n)) =
     ∙ sym (lt-leb (suc (suc n)) 1 (omega arith))
 
 module _ (l : List ℕ) (b : Bytes l) where
-  abbrev asked : State → Bool
-  asked st =
+  abbrev asked : Sequence → Totals → Bool
+  asked q t =
       leb (beAt 1 l 36) 1 && leb (beAt 1 l 37) 1 && leb (beAt 1 l 40) 1 && leb (beAt 1 l 58) 1
-      && eqb (stageNumber (st .sequence .stage)) (beAt 1 l 88) && eqb (stageTimer (st .sequence .stage)) (beAt 2 l 90)
-      && eqb (errorNumber (st .sequence .error)) (beAt 1 l 94) && eqb (judgementNumber (st .sequence .judgement)) (beAt 1 l 95)
-      && eqb (backTag (st .totals .back)) (beAt 1 l 108) && eqb (backWeight (st .totals .back)) (beAt 8 l 112)
+      && eqb (stageNumber (q .stage)) (beAt 1 l 88) && eqb (stageTimer (q .stage)) (beAt 2 l 90)
+      && eqb (errorNumber (q .error)) (beAt 1 l 94) && eqb (judgementNumber (q .judgement)) (beAt 1 l 95)
+      && eqb (backTag (t .back)) (beAt 1 l 108) && eqb (backWeight (t .back)) (beAt 8 l 112)
 
   -- an unsigned number, a signed one, a flag; a name's number is asked as it stands
   abbrev plain : ℕ → ℕ → Row
@@ -173,19 +174,19 @@ module _ (l : List ℕ) (b : Bytes l) where
       ∷ name (stageNumber g) 1 88 ∷ name (stageTimer g) 2 90 ∷ plain 2 92 ∷ name (errorNumber e) 1 94 ∷ name (judgementNumber j) 1 95
       ∷ plain 8 96 ∷ plain 4 104 ∷ name (backTag v) 1 108 ∷ name (backWeight v) 8 112 ∷ []
 
-  read-whole : sameBytes (stateNumbers (stateAt l)) (getAll stateRows l) ≡ asked (stateAt l)
+  read-whole : sameBytes (stateNumbers (stateAt l)) (getAll stateRows l) ≡ asked (stateAt l .sequence) (stateAt l .totals)
   unfolding stateAt getAll
   read-whole = rows-same true (rows (stateAt l .sequence .stage) (stateAt l .sequence .error) (stateAt l .sequence .judgement) (stateAt l .totals .back))
 
-  -- what the code asks
-  pub whole : (st : State) → st ≡ stateAt l → asked st ≡ sameBytes (stateNumbers st) (getAll stateRows l)
-  whole st e = subst (λ (x : State). asked x ≡ sameBytes (stateNumbers x) (getAll stateRows l)) (sym e) (sym read-whole)
+  -- what the code asks, of the sequence and the totals that it read
+  pub whole : (q : Sequence) (t : Totals) → q ≡ stateAt l .sequence → t ≡ stateAt l .totals → asked q t ≡ sameBytes (stateNumbers (stateAt l)) (getAll stateRows l)
+  whole q t e f = (λ i. asked (e i) (f i)) ∙ sym read-whole
 
   -- and with it and the bytes in no place the comparison with an image of the state
-  pub state-again : length l ≡ stateLength → (st : State) → st ≡ stateAt l
-      → sameBytes (imageOf st) l ≡ sameBytes (stateNumbers st) (getAll stateRows l) && zerosIn (gaps 0 stateLength stateRows) l
+  pub state-again : length l ≡ stateLength
+      → sameBytes (imageOf (stateAt l)) l ≡ sameBytes (stateNumbers (stateAt l)) (getAll stateRows l) && zerosIn (gaps 0 stateLength stateRows) l
   unfolding imageOf putState
-  state-again n st e = again stateRows (stateNumbers st) l stateLength tt n b (numbers-fit st (subst HeldState (sym e) (held-at l b)))
+  state-again n = again stateRows (stateNumbers (stateAt l)) l stateLength tt n b (numbers-fit (stateAt l) (held-at l b))
 
 pub unused-state : (l : List ℕ) →
     zerosAt 2 38 l && zerosAt 1 41 l && zerosAt 1 59 l && zerosAt 1 89 l && zerosAt 3 109 l && zerosAt 136 120 l ≡ zerosIn (gaps 0 stateLength stateRows) l

@@ -1,25 +1,26 @@
 -- A chain of tests that ends early, and what an image is refused for, test by test. Assumes nothing.
 use Prim.Native.Nat.{ℕ, _+_, _*_}
-use mathlib.Core.Path.{_≡_, refl}
+use mathlib.Core.Path.{_≡_, refl, sym, _∙_}
 use mathlib.Core.Bool.{Bool, true, false, _&&_, _||_}
 use mathlib.Core.List.{List, [], _∷_}
 use lib.Dec.{leb}
 use lib.ListN.{length}
-use lib.IntN.{ℤ, pos, natAbs, _+ℤ_}
+use lib.IntN.{pos, natAbs, _+ℤ_}
 use borrow.Author.Tests.{eq-eqb, ne-eqb}
 use Rattle.whole.specs.Ints.{eqZ}
 use Rattle.whole.specs.Chains.{links}
 use Rattle.places.specs.Places.{sameBytes}
 use Rattle.types.specs.declared.settings.Given.{Given}
+use Rattle.types.specs.declared.settings.Settings.{Settings}
 use Rattle.types.specs.declared.daybook.Book.{Book}
 use Rattle.types.specs.declared.machine.State.{State}
 use Rattle.outline.specs.Limits.{rawLimit, riseLimit, dayTicks}
-use Rattle.outline.specs.Settings.{settingsOf}
+use Rattle.outline.specs.Setpoints.{setpointsFit}
 use Rattle.outline.proofs.Parts.{clash}
-use Rattle.images.specs.StateImage.{stateLength, imageOf}
+use Rattle.images.specs.StateImage.{stateLength, imageOf, stateAt}
 use Rattle.images.specs.GivenImage.{givenLength, givenImage, givenRefusal}
-use Rattle.images.specs.Possible.{blankBook, balances, bookPossible, possible}
-use Rattle.images.specs.Images.{stateRefusal, written}
+use Rattle.images.specs.Possible.{blankBook, balances, bookPossible, stabilityPossible, weighingPossible, sequencePossible, totalsPossible, togetherPossible, restPossible, possible}
+use Rattle.images.specs.Images.{bytesRefusal}
 
 -- ---- the day book: two tests are asked first, since the others' sums need them
 no : (t : Bool) → (t ≡ true → ⊥) → false ≡ t
@@ -54,6 +55,42 @@ module _ (b : Book) where
   unfolding bookPossible
   book-rest p q = passed (leb (b .ticks) dayTicks && leb (natAbs (b .opening)) rawLimit && leb (natAbs (b .last)) rawLimit) _ _ _ _ _ p q
 
+-- ---- a state: the day book, the totals and the weighing are asked first, and one that is not possible ends the test
+module _ (s : Settings) (st : State) where
+  abbrev parts : List Bool
+  parts =
+      stabilityPossible (s .steadiness) (st .stability) ∷ weighingPossible (s .range) (s .tracking) (st .weighing)
+      ∷ setpointsFit (s .batching .mode) (st .setpoints) ∷ sequencePossible (s .batching) (st .sequence) ∷ totalsPossible (st .totals)
+      ∷ togetherPossible s st ∷ []
+
+  pub not-book : bookPossible (st .book) ≡ false → false ≡ possible s st
+  unfolding possible
+  not-book e = no _ (λ h. clash (links (bookPossible (st .book)) parts h .0) e)
+
+  pub not-weighing : weighingPossible (s .range) (s .tracking) (st .weighing) ≡ false → false ≡ possible s st
+  unfolding possible
+  not-weighing e = no _ (λ h. clash (links (bookPossible (st .book)) parts h .1 .1 .0) e)
+
+  pub not-totals : totalsPossible (st .totals) ≡ false → false ≡ possible s st
+  unfolding possible
+  not-totals e = no _ (λ h. clash (links (bookPossible (st .book)) parts h .1 .1 .1 .1 .1 .0) e)
+
+  four : (q p x g : Bool) → q && p && x && g ≡ true && q && true && p && x && true && g
+  four false p x g = refl
+  four true false x g = refl
+  four true true false g = refl
+  four true true true g = refl
+
+  pub rest : bookPossible (st .book) ≡ true → totalsPossible (st .totals) ≡ true → weighingPossible (s .range) (s .tracking) (st .weighing) ≡ true
+      → restPossible s (st .stability) (st .setpoints) (st .sequence) (st .book .begun) (st .weighing .counter) ≡ possible s st
+  unfolding possible restPossible
+  rest b t w =
+      let q = stabilityPossible (s .steadiness) (st .stability) in
+      let p = setpointsFit (s .batching .mode) (st .setpoints) in
+      let x = sequencePossible (s .batching) (st .sequence) in
+      let g = togetherPossible s st in
+      four q p x g ∙ (λ i. sym b i && q && sym w i && p && x && sym t i && g)
+
 -- ---- a settings image
 module _ (l : List ℕ) (g : Given) where
   pub given-length : (length l ≡ givenLength → ⊥) → 20 ≡ givenRefusal l g
@@ -68,30 +105,16 @@ module _ (l : List ℕ) (g : Given) where
   unfolding givenRefusal
   given-good n s = simp (eq-eqb (length l) givenLength n, s)
 
--- ---- a state image
-module _ (g : Given) (l : List ℕ) (st : State) where
-  pub of-length : (length l ≡ stateLength → ⊥) → 20 ≡ stateRefusal g l st
-  unfolding stateRefusal
-  of-length n = simp (ne-eqb (length l) stateLength n)
+-- ---- the bytes of a state image
+module _ (l : List ℕ) where
+  pub bytes-length : (length l ≡ stateLength → ⊥) → 20 ≡ bytesRefusal l
+  unfolding bytesRefusal
+  bytes-length n = simp (ne-eqb (length l) stateLength n)
 
-  pub of-range : length l ≡ stateLength → possible (settingsOf g) st ≡ false → 21 ≡ stateRefusal g l st
-  unfolding stateRefusal
-  of-range n p = simp (eq-eqb (length l) stateLength n, p)
+  pub bytes-other : length l ≡ stateLength → sameBytes (imageOf (stateAt l)) l ≡ false → 21 ≡ bytesRefusal l
+  unfolding bytesRefusal
+  bytes-other n s = simp (eq-eqb (length l) stateLength n, s)
 
-  pub of-bytes : length l ≡ stateLength → possible (settingsOf g) st ≡ true → sameBytes (imageOf st) l ≡ false → 21 ≡ stateRefusal g l st
-  unfolding stateRefusal
-  of-bytes n p s = simp (eq-eqb (length l) stateLength n, p, s)
-
-  pub of-image : length l ≡ stateLength → possible (settingsOf g) st ≡ true → sameBytes (imageOf st) l ≡ true → 0 ≡ stateRefusal g l st
-  unfolding stateRefusal
-  of-image n p s = simp (eq-eqb (length l) stateLength n, p, s)
-
--- ---- a state written to a buffer
-module _ (st : State) (l : List ℕ) where
-  pub write-short : (length l ≡ stateLength → ⊥) → l ≡ written st l
-  unfolding written
-  write-short n = simp (ne-eqb (length l) stateLength n)
-
-  pub write-good : length l ≡ stateLength → imageOf st ≡ written st l
-  unfolding written
-  write-good n = simp (eq-eqb (length l) stateLength n)
+  pub bytes-same : length l ≡ stateLength → sameBytes (imageOf (stateAt l)) l ≡ true → 0 ≡ bytesRefusal l
+  unfolding bytesRefusal
+  bytes-same n s = simp (eq-eqb (length l) stateLength n, s)

@@ -8,7 +8,6 @@ use lib.ListN.{length, getD, replicate}
 use mir.Syntax.{w32}
 use Rattle.places.specs.Places.{Place, row, getAll, putAll, signed, coded, sameBytes}
 use Rattle.types.specs.declared.settings.Given.{Given}
-use Rattle.images.specs.declared.given.GivenRead.{GivenRead}
 
 -- the bytes of a settings image
 abbrev pub givenLength : ℕ
@@ -99,6 +98,10 @@ givenAt l = givenOf (getAll givenRows l)
 -- bytes.
 unfoldable pub givenRefusal : List ℕ → Given → ℕ
 givenRefusal l g = cond (eqb (length l) givenLength) (cond (sameBytes (givenImage g) l) 0 21) 20
+
+pub record GivenRead : Type 0 where
+  pub refusal : ℕ
+  pub given : Given
 
 -- the refusal, or 0, and the settings; where it is refused they are only what stands at the places
 unfoldable pub givenIn : List ℕ → GivenRead

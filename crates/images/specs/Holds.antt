@@ -64,6 +64,10 @@ pub record Holds (l : List ℕ) (st : State) : Type 0 where
   pub image : imageOf st ≡ l
   pub held : HeldState st
 
+-- what is said of a buffer is so of the state that it holds
+abbrev pub Tells : List ℕ → (State → Type 0) → Type 0
+Tells l f = (st : State) → Holds l st → f st
+
 -- what was done turned a buffer that held a state into one that holds what f makes of it
 abbrev pub Turns : List ℕ → List ℕ → (State → State) → Type 0
 Turns before after f = (st : State) → Holds before st → Holds after (f st)

@@ -1,4 +1,4 @@
--- What a state image is read as, under settings as they are given, and what a buffer is after a state was written to it.
+-- What a state image is read as, under settings as they are given.
 use Prim.Native.Nat.{ℕ}
 use mathlib.Core.List.{List}
 use mathlib.Core.Bool.{cond}
@@ -8,7 +8,6 @@ use Rattle.places.specs.Places.{sameBytes}
 use Rattle.types.specs.declared.settings.Given.{Given}
 use Rattle.types.specs.declared.machine.State.{State}
 use Rattle.outline.specs.Settings.{settingsOf}
-use Rattle.images.specs.declared.state.StateRead.{StateRead}
 use Rattle.images.specs.StateImage.{stateLength, imageOf, stateAt}
 use Rattle.images.specs.Possible.{possible}
 
@@ -23,10 +22,14 @@ stateRefusal g l st =
     21)
     20
 
+-- what is asked of the bytes alone: the length, and that the state at the places gives them again
+unfoldable pub bytesRefusal : List ℕ → ℕ
+bytesRefusal l = cond (eqb (length l) stateLength) (cond (sameBytes (imageOf (stateAt l)) l) 0 21) 20
+
+pub record StateRead : Type 0 where
+  pub refusal : ℕ
+  pub state : State
+
 -- the refusal, or 0, and the state; where it is refused the state is only what stands at the places
 unfoldable pub stateIn : Given → List ℕ → StateRead
 stateIn g l = record { refusal = stateRefusal g l (stateAt l); state = stateAt l }
-
--- a buffer of the image's length holds the state's image; one of another length stays as it is
-unfoldable pub written : State → List ℕ → List ℕ
-written st l = cond (eqb (length l) stateLength) (imageOf st) l

@@ -17,12 +17,10 @@ use Rattle.outline.specs.Settings.{openOf}
 use Rattle.outline.specs.Run.{History, runOf, runFrom}
 use Rattle.outline.specs.Ranges.{Balanced, StateRange}
 use Rattle.outline.specs.StaysTrue.{Keeps}
-use Rattle.images.specs.declared.state.StateRead.{StateRead}
-use Rattle.images.specs.declared.given.GivenRead.{GivenRead}
 use Rattle.images.specs.StateImage.{stateRows, imageOf}
-use Rattle.images.specs.GivenImage.{givenRows, givenImage, givenIn}
+use Rattle.images.specs.GivenImage.{GivenRead, givenRows, givenImage, givenIn}
 use Rattle.images.specs.Possible.{possible}
-use Rattle.images.specs.Images.{stateIn}
+use Rattle.images.specs.Images.{StateRead, stateIn}
 
 -- read, and not refused
 abbrev pub good : State → StateRead

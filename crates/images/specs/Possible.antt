@@ -121,6 +121,14 @@ abbrev pub togetherPossible : Settings → State → Bool
 togetherPossible s st =
     togetherFits (s .batching .mode) (st .setpoints) (stageNumber (st .sequence .stage)) (st .stability .good) (st .book .begun) (st .weighing .counter)
 
+-- the parts that no sum or total is in, each and together
+unfoldable pub restPossible : Settings → Stability → Setpoints → Sequence → Bool → ℕ → Bool
+restPossible s q p x begun counter =
+    stabilityPossible (s .steadiness) q
+    && setpointsFit (s .batching .mode) p
+    && sequencePossible (s .batching) x
+    && togetherFits (s .batching .mode) p (stageNumber (x .stage)) (q .good) begun counter
+
 -- ---- the whole
 unfoldable pub possible : Settings → State → Bool
 possible s st =

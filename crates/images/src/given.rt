@@ -1,21 +1,46 @@
 // The settings image: read, all of its numbers as they are given. The caller writes it.
 ghost use mathlib.Core.Path.{_≡_};
-ghost use Rattle.images.specs.GivenImage.{givenAt, givenRefusal, givenIn};
+ghost use lib.ListN.{length};
+ghost use Rattle.images.specs.GivenImage.{givenLength, givenAt, givenIn};
 use types::settings::Given;
 
 // The bytes of a settings image.
-const GIVEN_LENGTH: usize = 128;
+pub(crate) const GIVEN_LENGTH: usize = 128;
 
-// What a settings image is read as: 0, or 20 wrong length, 21 an unused byte that is not 0. Where it is refused, the settings are only what
-// stands at the places.
-pub struct GivenRead {
-    pub refusal: u8,
-    pub given: Given,
-}
-
-fn given_at(s: &[u8]) -> Given
-    ensures { λ r. ⌜ r ≡ givenAt (now (s .entry)) ⌝ }
+// What stands at the places, whatever the bytes are. It asks for the length first, so that the compiler reads a number in one piece; a buffer of
+// another length holds no settings.
+pub fn given_at(s: &[u8]) -> Given
+    ensures { λ r. ⌜ (length (now (s .entry)) ≡ givenLength → r ≡ givenAt (now (s .entry))) ⌝ }
 {
+    if s.len() != GIVEN_LENGTH {
+        return Given {
+            zero: 0,
+            span: 0,
+            capacity: 0,
+            weight: 0,
+            division: 0,
+            zeroing: 0,
+            tracktime: 0,
+            trackwidth: 0,
+            allowance: 0,
+            stabletime: 0,
+            stablewidth: 0,
+            mode: 0,
+            start: 0,
+            large: 0,
+            medium: 0,
+            small: 0,
+            judge: 0,
+            flow: 0,
+            address: 0,
+            board: 0,
+            low: 0,
+            high: 0,
+            dischargestart: 0,
+            dischargeend: 0,
+            dischargelimit: 0,
+        };
+    }
     let zero = places::i32_at(s, 0);
     let span = places::i32_at(s, 4);
     let capacity = places::i32_at(s, 8);
@@ -70,9 +95,10 @@ fn given_at(s: &[u8]) -> Given
     }
 }
 
-// Any numbers may be given, so that only the bytes behind them are asked for: they are 0.
-fn given_refusal(s: &[u8]) -> u8
-    ensures { λ r. ⌜ r ≡ givenRefusal (now (s .entry)) (givenAt (now (s .entry))) ⌝ }
+// What a settings image is refused with, or 0: 20 wrong length, 21 an unused byte that is not 0. Any numbers may be given, so that only the bytes
+// behind them are asked for.
+pub fn given_refusal(s: &[u8]) -> u8
+    ensures { λ r. ⌜ r ≡ givenIn (now (s .entry)) .refusal ⌝ }
 {
     if s.len() != GIVEN_LENGTH {
         return 20;
@@ -81,12 +107,4 @@ fn given_refusal(s: &[u8]) -> u8
         return 21;
     }
     0
-}
-
-pub fn read_given(s: &[u8]) -> GivenRead
-    ensures { λ r. ⌜ r ≡ givenIn (now (s .entry)) ⌝ }
-{
-    let given = given_at(s);
-    let refusal = given_refusal(s);
-    GivenRead { refusal, given }
 }

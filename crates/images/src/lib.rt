@@ -5,8 +5,8 @@ ghost use Rattle.images.specs.Owed.{ReadBack, OneImage, UnusedZero, Give
 
 pub mod given;
 mod names;
-mod parts;
-mod possible;
+pub mod parts;
+pub mod possible;
 pub mod state;
 
 // Figures of images and what images owe. It does nothing: it stands here so that the check's list names the statements, and misses them if a

@@ -1,7 +1,9 @@
 // The parts of a state at their places in its image: read, whatever the bytes are, and written. The tables are those of specs/StateImage.antt.
+// Each asks for the length before its first byte, so that the compiler reads a number in one piece; a buffer of another length holds no
+// state, and stays.
 ghost use mathlib.Core.Path.{_≡_};
-ghost use Rattle.places.specs.Places.{getAll};
-ghost use Rattle.images.specs.StateImage.{bookRows, bookOf, stabilityRows, stabilityOf, weighingRows, weighingOf, panelRows, panelOf, setpointRows, setpointsOf, sequenceRows, sequenceOf, totalsRows, totalsOf};
+ghost use lib.ListN.{length};
+ghost use Rattle.images.specs.StateImage.{stateLength, stateAt};
 ghost use Rattle.types.specs.declared.machine.State.{State};
 ghost use Rattle.outline.specs.Parts.{withBook, withStability, withWeighing, withSetpoints, withSequence, withTotals};
 ghost use Rattle.images.specs.Holds.{Turns, withPanel};
@@ -18,16 +20,36 @@ use numbers::error_number;
 use numbers::judgement_number;
 use numbers::stage_number;
 use types::daybook::Book;
+use types::stages::Batch;
+use types::stages::Judgement;
 use types::stages::Sequence;
+use types::stages::SequenceError;
 use types::stages::Setpoints;
+use types::stages::Stage;
 use types::stages::Totals;
+use types::weight::Display;
 use types::weight::Panel;
 use types::weight::Stability;
 use types::weight::Weighing;
 
-pub(crate) fn book_at(s: &[u8]) -> Book
-    ensures { λ r. ⌜ r ≡ bookOf (getAll bookRows (now (s .entry))) ⌝ }
+// The bytes of a state image.
+pub(crate) const STATE_LENGTH: usize = 256;
+
+pub fn book_at(s: &[u8]) -> Book
+    ensures { λ r. ⌜ (length (now (s .entry)) ≡ stateLength → r ≡ stateAt (now (s .entry)) .book) ⌝ }
 {
+    if s.len() != STATE_LENGTH {
+        return Book {
+            opening: 0,
+            last: 0,
+            refilled: 0,
+            used: 0,
+            unbooked: 0,
+            ticks: 0,
+            begun: false,
+            contact: false,
+        };
+    }
     let opening = places::i32_at(s, 0);
     let last = places::i32_at(s, 4);
     let refilled = places::i64_at(s, 8);
@@ -48,9 +70,12 @@ pub(crate) fn book_at(s: &[u8]) -> Book
     }
 }
 
-pub(crate) fn put_book(s: &mut [u8], b: Book)
+pub fn put_book(s: &mut [u8], b: Book)
     ensures { λ _. ⌜ Turns (now (s .entry)) (now (s .exit)) (λ (st : State). withBook st b) ⌝ }
 {
+    if s.len() != STATE_LENGTH {
+        return;
+    }
     places::put_i32(s, 0, b.opening);
     places::put_i32(s, 4, b.last);
     places::put_i64(s, 8, b.refilled);
@@ -61,24 +86,41 @@ pub(crate) fn put_book(s: &mut [u8], b: Book)
     places::put_flag(s, 37, b.contact);
 }
 
-pub(crate) fn stability_at(s: &[u8]) -> Stability
-    ensures { λ r. ⌜ r ≡ stabilityOf (getAll stabilityRows (now (s .entry))) ⌝ }
+pub fn stability_at(s: &[u8]) -> Stability
+    ensures { λ r. ⌜ (length (now (s .entry)) ≡ stateLength → r ≡ stateAt (now (s .entry)) .stability) ⌝ }
 {
+    if s.len() != STATE_LENGTH {
+        return Stability {
+            good: false,
+            run: 0,
+        };
+    }
     let good = places::flag_at(s, 40);
     let run = places::u16_at(s, 42);
     Stability { good, run }
 }
 
-pub(crate) fn put_stability(s: &mut [u8], q: Stability)
+pub fn put_stability(s: &mut [u8], q: Stability)
     ensures { λ _. ⌜ Turns (now (s .entry)) (now (s .exit)) (λ (st : State). withStability st q) ⌝ }
 {
+    if s.len() != STATE_LENGTH {
+        return;
+    }
     places::put_flag(s, 40, q.good);
     places::put_u16(s, 42, q.run);
 }
 
-pub(crate) fn weighing_at(s: &[u8]) -> Weighing
-    ensures { λ r. ⌜ r ≡ weighingOf (getAll weighingRows (now (s .entry))) ⌝ }
+pub fn weighing_at(s: &[u8]) -> Weighing
+    ensures { λ r. ⌜ (length (now (s .entry)) ≡ stateLength → r ≡ stateAt (now (s .entry)) .weighing) ⌝ }
 {
+    if s.len() != STATE_LENGTH {
+        return Weighing {
+            zero: 0,
+            tracked: 0,
+            tare: 0,
+            counter: 0,
+        };
+    }
     let zero = places::i32_at(s, 44);
     let tracked = places::i32_at(s, 48);
     let tare = places::i32_at(s, 52);
@@ -91,32 +133,54 @@ pub(crate) fn weighing_at(s: &[u8]) -> Weighing
     }
 }
 
-pub(crate) fn put_weighing(s: &mut [u8], w: Weighing)
+pub fn put_weighing(s: &mut [u8], w: Weighing)
     ensures { λ _. ⌜ Turns (now (s .entry)) (now (s .exit)) (λ (st : State). withWeighing st w) ⌝ }
 {
+    if s.len() != STATE_LENGTH {
+        return;
+    }
     places::put_i32(s, 44, w.zero);
     places::put_i32(s, 48, w.tracked);
     places::put_i32(s, 52, w.tare);
     places::put_u16(s, 56, w.counter);
 }
 
-pub(crate) fn panel_at(s: &[u8]) -> Panel
-    ensures { λ r. ⌜ r ≡ panelOf (getAll panelRows (now (s .entry))) ⌝ }
+pub fn panel_at(s: &[u8]) -> Panel
+    ensures { λ r. ⌜ (length (now (s .entry)) ≡ stateLength → r ≡ stateAt (now (s .entry)) .panel) ⌝ }
 {
+    if s.len() != STATE_LENGTH {
+        return Panel {
+            display: Display::Gross,
+        };
+    }
     let display = display_of(places::u8_at(s, 58));
     Panel { display }
 }
 
-pub(crate) fn put_panel(s: &mut [u8], p: Panel)
+pub fn put_panel(s: &mut [u8], p: Panel)
     ensures { λ _. ⌜ Turns (now (s .entry)) (now (s .exit)) (λ (st : State). withPanel st p) ⌝ }
 {
+    if s.len() != STATE_LENGTH {
+        return;
+    }
     let display = p.display;
     places::put_u8(s, 58, display_number(display));
 }
 
-pub(crate) fn setpoints_at(s: &[u8]) -> Setpoints
-    ensures { λ r. ⌜ r ≡ setpointsOf (getAll setpointRows (now (s .entry))) ⌝ }
+pub fn setpoints_at(s: &[u8]) -> Setpoints
+    ensures { λ r. ⌜ (length (now (s .entry)) ≡ stateLength → r ≡ stateAt (now (s .entry)) .setpoints) ⌝ }
 {
+    if s.len() != STATE_LENGTH {
+        return Setpoints {
+            target: 0,
+            fall: 0,
+            preliminary: 0,
+            optional: 0,
+            over: 0,
+            under: 0,
+            near: 0,
+        };
+    }
     let target = places::u32_at(s, 60);
     let fall = places::u32_at(s, 64);
     let preliminary = places::u32_at(s, 68);
@@ -135,9 +199,12 @@ pub(crate) fn setpoints_at(s: &[u8]) -> Setpoints
     }
 }
 
-pub(crate) fn put_setpoints(s: &mut [u8], p: Setpoints)
+pub fn put_setpoints(s: &mut [u8], p: Setpoints)
     ensures { λ _. ⌜ Turns (now (s .entry)) (now (s .exit)) (λ (st : State). withSetpoints st p) ⌝ }
 {
+    if s.len() != STATE_LENGTH {
+        return;
+    }
     places::put_u32(s, 60, p.target);
     places::put_u32(s, 64, p.fall);
     places::put_u32(s, 68, p.preliminary);
@@ -147,9 +214,17 @@ pub(crate) fn put_setpoints(s: &mut [u8], p: Setpoints)
     places::put_u32(s, 84, p.near);
 }
 
-pub(crate) fn sequence_at(s: &[u8]) -> Sequence
-    ensures { λ r. ⌜ r ≡ sequenceOf (getAll sequenceRows (now (s .entry))) ⌝ }
+pub fn sequence_at(s: &[u8]) -> Sequence
+    ensures { λ r. ⌜ (length (now (s .entry)) ≡ stateLength → r ≡ stateAt (now (s .entry)) .sequence) ⌝ }
 {
+    if s.len() != STATE_LENGTH {
+        return Sequence {
+            stage: Stage::Idle,
+            clock: 0,
+            error: SequenceError::None,
+            judgement: Judgement::None,
+        };
+    }
     let stage = stage_of(places::u8_at(s, 88), places::u16_at(s, 90));
     let clock = places::u16_at(s, 92);
     let error = error_of(places::u8_at(s, 94));
@@ -162,9 +237,12 @@ pub(crate) fn sequence_at(s: &[u8]) -> Sequence
     }
 }
 
-pub(crate) fn put_sequence(s: &mut [u8], q: Sequence)
+pub fn put_sequence(s: &mut [u8], q: Sequence)
     ensures { λ _. ⌜ Turns (now (s .entry)) (now (s .exit)) (λ (st : State). withSequence st q) ⌝ }
 {
+    if s.len() != STATE_LENGTH {
+        return;
+    }
     let stage = q.stage;
     let error = q.error;
     let judgement = q.judgement;
@@ -175,18 +253,28 @@ pub(crate) fn put_sequence(s: &mut [u8], q: Sequence)
     places::put_u8(s, 95, judgement_number(judgement));
 }
 
-pub(crate) fn totals_at(s: &[u8]) -> Totals
-    ensures { λ r. ⌜ r ≡ totalsOf (getAll totalsRows (now (s .entry))) ⌝ }
+pub fn totals_at(s: &[u8]) -> Totals
+    ensures { λ r. ⌜ (length (now (s .entry)) ≡ stateLength → r ≡ stateAt (now (s .entry)) .totals) ⌝ }
 {
+    if s.len() != STATE_LENGTH {
+        return Totals {
+            total: 0,
+            count: 0,
+            back: Batch::Nothing,
+        };
+    }
     let total = places::u64_at(s, 96);
     let count = places::u32_at(s, 104);
     let back = back_of(places::u8_at(s, 108), places::u64_at(s, 112));
     Totals { total, count, back }
 }
 
-pub(crate) fn put_totals(s: &mut [u8], t: Totals)
+pub fn put_totals(s: &mut [u8], t: Totals)
     ensures { λ _. ⌜ Turns (now (s .entry)) (now (s .exit)) (λ (st : State). withTotals st t) ⌝ }
 {
+    if s.len() != STATE_LENGTH {
+        return;
+    }
     let back = t.back;
     places::put_u64(s, 96, t.total);
     places::put_u32(s, 104, t.count);

@@ -4,14 +4,27 @@ ghost use mathlib.Core.Path.{_≡_};
 ghost use Prim.Native.Nat.{_+_, _*_, _≤_, max};
 ghost use lib.Dec.{leb};
 ghost use lib.IntN.{natAbs, _+ℤ_, _-ℤ_};
+ghost use lib.ListN.{length};
+ghost use mir.Syntax.{w32};
+ghost use Rattle.places.specs.Places.{beAt, signed};
 ghost use Rattle.whole.specs.Ints.{eqZ};
 ghost use Rattle.outline.specs.Limits.{rawLimit, riseLimit};
 ghost use Rattle.outline.specs.Settings.{settingsOf};
-ghost use Rattle.images.specs.Possible.{blankBook, bookPossible, stabilityPossible, weighingPossible, timeOf, clockLimit, sequenceFits, totalsPossible, flowPossible, togetherFits, possible};
+ghost use Rattle.images.specs.Possible.{blankBook, bookPossible, stabilityPossible, weighingPossible, timeOf, clockLimit, sequenceFits, totalsPossible, flowPossible, togetherFits, restPossible, possible};
+ghost use Rattle.images.specs.GivenImage.{givenLength, givenAt};
+ghost use Rattle.images.specs.StateImage.{stateLength, stateAt};
 ghost use Rattle.outline.specs.Zero.{trackingOn};
+use crate::given::GIVEN_LENGTH;
 use crate::names::back_tag;
 use crate::names::back_weight;
 use crate::names::stage_timer;
+use crate::parts::STATE_LENGTH;
+use crate::parts::book_at;
+use crate::parts::sequence_at;
+use crate::parts::setpoints_at;
+use crate::parts::stability_at;
+use crate::parts::totals_at;
+use crate::parts::weighing_at;
 use numbers::error_number;
 use numbers::judgement_number;
 use numbers::stage_number;
@@ -19,9 +32,8 @@ use setpoints::has_no_large;
 use setpoints::setpoints_fit;
 use settings::mode_of;
 use types::daybook::Book;
-use types::machine::State;
-use types::settings::Given;
 use types::settings::Mode;
+use types::stages::Sequence;
 use types::stages::Setpoints;
 use types::stages::Totals;
 use types::weight::Stability;
@@ -40,11 +52,53 @@ const TOTAL_LIMIT: u64 = 99_999_999;
 
 const BATCH_LIMIT: u32 = 99_999_999;
 
+// Where the settings that bound a state stand in their image.
+const CAPACITY: u32 = 8;
+
+const DIVISION: u32 = 16;
+
+const ZEROING: u32 = 20;
+
+const TRACK_TIME: u32 = 24;
+
+const TRACK_WIDTH: u32 = 28;
+
+const ALLOWANCE: u32 = 32;
+
+const STABLE_TIME: u32 = 36;
+
+const MODE: u32 = 44;
+
+const START: u32 = 48;
+
+const LARGE: u32 = 52;
+
+const MEDIUM: u32 = 56;
+
+const SMALL: u32 = 60;
+
+const JUDGE: u32 = 64;
+
+const FLOW: u32 = 68;
+
+const DISCHARGE_START: u32 = 88;
+
+const DISCHARGE_END: u32 = 92;
+
+const DISCHARGE_LIMIT: u32 = 96;
+
 // |x|
 fn size(x: i32) -> u32
     ensures { λ r. ⌜ r ≡ natAbs x ⌝ }
 {
     magnitude(wide(x)) as u32
+}
+
+// A number of the settings, at its place in their image g, without its sign.
+fn given(g: &[u8], at: u32) -> u32
+    ensures { λ r. ⌜ r ≡ natAbs (signed w32 (beAt 4 (now (g .entry)) at)) ⌝ }
+{
+    size(places::i32_at(g, at))
 }
 
 // n, or 1 where it is 0: so long is a timed stage of n.
@@ -127,86 +181,86 @@ fn is_book(b: Book) -> bool
         & is_balanced(b.opening, b.refilled, b.used, b.unbooked, b.last)
 }
 
-fn is_stability(g: Given, q: Stability) -> bool
-    ensures { λ r. ⌜ r ≡ stabilityPossible (settingsOf g .steadiness) q ⌝ }
+fn is_stability(g: &[u8], q: Stability) -> bool
+    ensures { λ r. ⌜ r ≡ stabilityPossible (settingsOf (givenAt (now (g .entry))) .steadiness) q ⌝ }
 {
-    ((q.run as u32) <= size(g.stabletime)) & (q.good | (q.run == 0))
+    ((q.run as u32) <= given(g, STABLE_TIME)) & (q.good | (q.run == 0))
 }
 
-fn is_tracking(g: Given) -> bool
-    ensures { λ r. ⌜ r ≡ trackingOn (settingsOf g .tracking) ⌝ }
+fn is_tracking(g: &[u8]) -> bool
+    ensures { λ r. ⌜ r ≡ trackingOn (settingsOf (givenAt (now (g .entry))) .tracking) ⌝ }
 {
-    (0 < size(g.tracktime)) & (0 < size(g.trackwidth))
+    (0 < given(g, TRACK_TIME)) & (0 < given(g, TRACK_WIDTH))
 }
 
-fn is_weighing(g: Given, w: Weighing) -> bool
-    ensures { λ r. ⌜ r ≡ weighingPossible (settingsOf g .range) (settingsOf g .tracking) w ⌝ }
+fn is_weighing(g: &[u8], w: Weighing) -> bool
+    ensures { λ r. ⌜ r ≡ weighingPossible (settingsOf (givenAt (now (g .entry))) .range) (settingsOf (givenAt (now (g .entry))) .tracking) w ⌝ }
 {
-    let capacity = size(g.capacity) as u64;
-    let zeroes = capacity * (size(g.zeroing) as u64) / 10;
-    let tares = capacity * (size(g.division) as u64);
+    let capacity = given(g, CAPACITY) as u64;
+    let zeroes = capacity * (given(g, ZEROING) as u64) / 10;
+    let tares = capacity * (given(g, DIVISION) as u64);
     (magnitude(wide(w.zero)) <= zeroes)
         & (magnitude(whole::difference(w.zero, w.tracked)) <= zeroes)
-        & (size(w.tracked) <= size(g.allowance))
-        & ((w.counter as u32) < at_least_one(size(g.tracktime)))
+        & (size(w.tracked) <= given(g, ALLOWANCE))
+        & ((w.counter as u32) < at_least_one(given(g, TRACK_TIME)))
         & (0 <= w.tare)
         & (magnitude(wide(w.tare)) <= tares)
         & (is_tracking(g) | ((w.counter == 0) & (w.tracked == 0)))
 }
 
 // The setting of a timed stage, by its number; 0 for any other.
-fn time_of(g: Given, n: u8) -> u32
-    ensures { λ r. ⌜ r ≡ timeOf (settingsOf g .batching) n ⌝ }
+fn time_of(g: &[u8], n: u8) -> u32
+    ensures { λ r. ⌜ r ≡ timeOf (settingsOf (givenAt (now (g .entry))) .batching) n ⌝ }
 {
     if n == 3 {
-        return size(g.start);
+        return given(g, START);
     }
     if n == 4 {
-        return size(g.large);
+        return given(g, LARGE);
     }
     if n == 6 {
-        return size(g.medium);
+        return given(g, MEDIUM);
     }
     if n == 8 {
-        return size(g.small);
+        return given(g, SMALL);
     }
     if n == 10 {
-        return size(g.judge);
+        return given(g, JUDGE);
     }
     if n == 14 {
-        return size(g.dischargestart);
+        return given(g, DISCHARGE_START);
     }
     if n == 16 {
-        return size(g.dischargeend);
+        return given(g, DISCHARGE_END);
     }
     0
 }
 
 // The most that the clock of a stage shows, by its number; 0 where none runs.
-fn clock_limit(g: Given, n: u8) -> u32
-    ensures { λ r. ⌜ r ≡ clockLimit (settingsOf g .batching) n ⌝ }
+fn clock_limit(g: &[u8], n: u8) -> u32
+    ensures { λ r. ⌜ r ≡ clockLimit (settingsOf (givenAt (now (g .entry))) .batching) n ⌝ }
 {
     if n < 4 {
         return 0;
     }
     if n <= 11 {
-        return size(g.flow);
+        return given(g, FLOW);
     }
     if 15 <= n {
-        return size(g.dischargelimit);
+        return given(g, DISCHARGE_LIMIT);
     }
     0
 }
 
 // By the stage's number n, its timer t, the error's number e and the judgement's j.
-fn is_sequence(g: Given, n: u8, t: u16, clock: u16, e: u8, j: u8) -> bool
-    ensures { λ r. ⌜ r ≡ sequenceFits (settingsOf g .batching) n t clock e j ⌝ }
+fn is_sequence(g: &[u8], n: u8, t: u16, clock: u16, e: u8, j: u8) -> bool
+    ensures { λ r. ⌜ r ≡ sequenceFits (settingsOf (givenAt (now (g .entry))) .batching) n t clock e j ⌝ }
 {
     ((t as u32) < at_least_one(time_of(g, n)))
         & ((clock as u32) <= clock_limit(g, n))
         & ((n == 0) | (e == 0))
         & ((n == 0) | (14 <= n) | (j == 0))
-        & ((g.mode == 1) | !((14 <= n) | (e == 7) | (e == 8)))
+        & ((places::i32_at(g, MODE) == 1) | !((14 <= n) | (e == 7) | (e == 8)))
 }
 
 fn is_totals(t: Totals) -> bool
@@ -236,36 +290,61 @@ fn is_together(m: Mode, p: Setpoints, n: u8, good: bool, begun: bool, counter: u
     (!good | begun) & ((n == 0) | good) & (((n == 0) & good) | (counter == 0)) & flow_fits(m, p, n)
 }
 
-fn given_mode(g: Given) -> Mode
-    ensures { λ r. ⌜ r ≡ settingsOf g .batching .mode ⌝ }
+fn given_mode(g: &[u8]) -> Mode
+    ensures { λ r. ⌜ r ≡ settingsOf (givenAt (now (g .entry))) .batching .mode ⌝ }
 {
-    mode_of(g.mode)
+    mode_of(places::i32_at(g, MODE))
 }
 
-pub(crate) fn is_possible(g: Given, st: State) -> bool
-    ensures { λ r. ⌜ r ≡ possible (settingsOf g) st ⌝ }
+// The parts that no sum or total is in, each and together.
+fn is_rest(g: &[u8], q: Stability, p: Setpoints, x: Sequence, begun: bool, counter: u16) -> bool
+    ensures { λ r. ⌜ r ≡ restPossible (settingsOf (givenAt (now (g .entry)))) q p x begun counter ⌝ }
 {
     let mode = given_mode(g);
-    let q = st.sequence;
-    let stage = q.stage;
-    let error = q.error;
-    let judgement = q.judgement;
+    let stage = x.stage;
+    let error = x.error;
+    let judgement = x.judgement;
     let n = stage_number(stage);
     let t = stage_timer(stage);
     let e = error_number(error);
     let j = judgement_number(judgement);
-    is_book(st.book)
-        & is_stability(g, st.stability)
-        & is_weighing(g, st.weighing)
-        & setpoints_fit(mode, st.setpoints)
-        & is_sequence(g, n, t, q.clock, e, j)
-        & is_totals(st.totals)
-        & is_together(
-            mode,
-            st.setpoints,
-            n,
-            st.stability.good,
-            st.book.begun,
-            st.weighing.counter,
-        )
+    is_stability(g, q)
+        & setpoints_fit(mode, p)
+        & is_sequence(g, n, t, x.clock, e, j)
+        & is_together(mode, p, n, q.good, begun, counter)
+}
+
+// Whether the state in the image s can be under the settings in the image g: part by part, so that no two parts are at hand at once.
+pub fn is_possible(g: &[u8], s: &[u8]) -> bool
+    ensures { λ r. ⌜ (length (now (g .entry)) ≡ givenLength → length (now (s .entry)) ≡ stateLength → r ≡ possible (settingsOf (givenAt (now (g .entry)))) (stateAt (now (s .entry)))) ⌝ }
+{
+    if g.len() != GIVEN_LENGTH {
+        return false;
+    }
+    if s.len() != STATE_LENGTH {
+        return false;
+    }
+    let book = book_at(s);
+    if !is_book(book) {
+        return false;
+    }
+    let totals = totals_at(s);
+    if !is_totals(totals) {
+        return false;
+    }
+    let weighing = weighing_at(s);
+    if !is_weighing(g, weighing) {
+        return false;
+    }
+    let stability = stability_at(s);
+    let setpoints = setpoints_at(s);
+    let sequence = sequence_at(s);
+    is_rest(
+        g,
+        stability,
+        setpoints,
+        sequence,
+        book.begun,
+        weighing.counter,
+    )
 }

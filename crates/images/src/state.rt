@@ -1,64 +1,19 @@
-// The state image: read under settings as they are given, and written.
+// The state image, judged by its bytes. Its parts are read and written in parts.rt, its ranges asked in possible.rt.
 ghost use mathlib.Core.Path.{_≡_};
 ghost use lib.Dec.{leb};
 ghost use Rattle.places.specs.Places.{sameBytes, getAll, gaps, zerosIn};
 ghost use Rattle.images.specs.StateImage.{stateLength, stateRows, stateNumbers, stateAt};
-ghost use Rattle.types.specs.declared.machine.State.{State};
-ghost use Rattle.images.specs.Holds.{Turns};
-ghost use Rattle.images.specs.Images.{stateRefusal, stateIn, written};
+ghost use Rattle.images.specs.Images.{bytesRefusal};
 use crate::names::back_tag;
 use crate::names::back_weight;
 use crate::names::stage_timer;
 use crate::parts;
-use crate::possible::is_possible;
+use crate::parts::STATE_LENGTH;
 use numbers::error_number;
 use numbers::judgement_number;
 use numbers::stage_number;
-use types::machine::State;
-use types::settings::Given;
-
-// The bytes of a state image.
-const STATE_LENGTH: usize = 256;
-
-// What a state image is read as: 0, or 20 wrong length, 21 impossible. A struct, since an enum could not hold a state with an array. Where it
-// is refused, the state is only what stands at the places.
-pub struct StateRead {
-    pub refusal: u8,
-    pub state: State,
-}
-
-fn state_at(s: &[u8]) -> State
-    ensures { λ r. ⌜ r ≡ stateAt (now (s .entry)) ⌝ }
-{
-    let book = parts::book_at(s);
-    let stability = parts::stability_at(s);
-    let weighing = parts::weighing_at(s);
-    let panel = parts::panel_at(s);
-    let setpoints = parts::setpoints_at(s);
-    let sequence = parts::sequence_at(s);
-    let totals = parts::totals_at(s);
-    State {
-        book,
-        stability,
-        weighing,
-        panel,
-        setpoints,
-        sequence,
-        totals,
-    }
-}
-
-fn put_state(s: &mut [u8], st: State)
-    ensures { λ _. ⌜ Turns (now (s .entry)) (now (s .exit)) (λ (_ : State). st) ⌝ }
-{
-    parts::put_book(s, st.book);
-    parts::put_stability(s, st.stability);
-    parts::put_weighing(s, st.weighing);
-    parts::put_panel(s, st.panel);
-    parts::put_setpoints(s, st.setpoints);
-    parts::put_sequence(s, st.sequence);
-    parts::put_totals(s, st.totals);
-}
+use types::stages::Sequence;
+use types::stages::Totals;
 
 // 0 or 1: no, or yes.
 fn is_flag(n: u8) -> bool
@@ -69,12 +24,11 @@ fn is_flag(n: u8) -> bool
 
 // Whether the state that was read has the numbers at its places again: a flag is 0 or 1, a name's number names it, and a value without use
 // is 0. Every other number is read as it stands.
-fn is_read_whole(s: &[u8], st: State) -> bool
-    requires { ⌜ st ≡ stateAt (now s) ⌝ }
-    ensures { λ r. ⌜ r ≡ sameBytes (stateNumbers st) (getAll stateRows (now (s .entry))) ⌝ }
+fn is_read_whole(s: &[u8], q: Sequence, t: Totals) -> bool
+    requires { ⌜ q ≡ stateAt (now s) .sequence ⌝ }
+    requires { ⌜ t ≡ stateAt (now s) .totals ⌝ }
+    ensures { λ r. ⌜ r ≡ sameBytes (stateNumbers (stateAt (now (s .entry)))) (getAll stateRows (now (s .entry))) ⌝ }
 {
-    let q = st.sequence;
-    let t = st.totals;
     let stage = q.stage;
     let error = q.error;
     let judgement = q.judgement;
@@ -103,41 +57,21 @@ fn is_unused_zero(s: &[u8]) -> bool
         & places::are_zero(s, 120, 136)
 }
 
-// A second image, with the state written again, would be compared here: what it could show is asked of the bytes themselves.
-fn state_refusal(g: Given, s: &[u8], st: State) -> u8
-    requires { ⌜ st ≡ stateAt (now s) ⌝ }
-    ensures { λ r. ⌜ r ≡ stateRefusal g (now (s .entry)) st ⌝ }
+// What a state image is refused with for its bytes, or 0: 20 wrong length, 21 bytes that its state, written again, would not give. A second image
+// would be compared here: what it could show is asked of the bytes themselves. Whether the state is possible is asked by possible::is_possible.
+pub fn bytes_refusal(s: &[u8]) -> u8
+    ensures { λ r. ⌜ r ≡ bytesRefusal (now (s .entry)) ⌝ }
 {
     if s.len() != STATE_LENGTH {
         return 20;
     }
-    if !is_possible(g, st) {
-        return 21;
-    }
-    if !is_read_whole(s, st) {
+    let sequence = parts::sequence_at(s);
+    let totals = parts::totals_at(s);
+    if !is_read_whole(s, sequence, totals) {
         return 21;
     }
     if !is_unused_zero(s) {
         return 21;
     }
     0
-}
-
-pub fn read_state(g: Given, s: &[u8]) -> StateRead
-    ensures { λ r. ⌜ r ≡ stateIn g (now (s .entry)) ⌝ }
-{
-    let state = state_at(s);
-    let refusal = state_refusal(g, s, state);
-    StateRead { refusal, state }
-}
-
-// Into a buffer of the image's length; another stays as it is.
-pub fn write_state(st: State, s: &mut [u8])
-    ensures { λ _. ⌜ now (s .exit) ≡ written st (now (s .entry)) ⌝ }
-{
-    if s.len() != STATE_LENGTH {
-        return;
-    }
-    places::clear(s);
-    put_state(s, st);
 }

@@ -58,7 +58,7 @@ module _ (k : ℕ) where
       past-all n v at qs ws (putBe (q .bytes) w l (q .at)) (closer qs (q .at + q .bytes) (at + n) (omega arith) (and-r (leb (at + n) (q .at)) (tidy (q .at + q .bytes) k qs) t))
       ∙ ap (putAll qs ws) (put-past n v (q .bytes) w l at (q .at) a)
 
-  all-past : (mid post : List Place) (vs ws l : List ℕ) (from : ℕ) → T (tidy from k (mid ++ post)) → putAll mid vs (putAll post ws l) ≡ putAll post ws (putAll mid vs l)
+  pub all-past : (mid post : List Place) (vs ws l : List ℕ) (from : ℕ) → T (tidy from k (mid ++ post)) → putAll mid vs (putAll post ws l) ≡ putAll post ws (putAll mid vs l)
   unfolding putAll
   all-past [] post vs ws l from t = refl
   all-past (p ∷ mid) post [] ws l from t = refl
@@ -67,7 +67,7 @@ module _ (k : ℕ) where
       ap (putAll mid vs) (past-all (p .bytes) v (p .at) post ws l (behind mid post (p .at + p .bytes) r))
       ∙ all-past mid post vs ws (putBe (p .bytes) v l (p .at)) (p .at + p .bytes) r
 
-  over-all : (mid : List Place) (vs us l : List ℕ) (from : ℕ) → T (tidy from k mid) → length us ≡ length mid → length vs ≡ length mid
+  pub over-all : (mid : List Place) (vs us l : List ℕ) (from : ℕ) → T (tidy from k mid) → length us ≡ length mid → length vs ≡ length mid
       → putAll mid vs (putAll mid us l) ≡ putAll mid vs l
   unfolding putAll
   over-all [] vs us l from t e f = refl

@@ -8,6 +8,9 @@ use Rattle.images.specs.GivenImage.{givenAt}
 use Rattle.images.proofs.given.given_at.Statement.{statement}
 use Rattle.images.proofs.given.given_at.Tie as tie
 
+returns : tie.Need-returns
+returns c e = absurd (c .if1 .taken e)
+
 i32-at-requires : tie.Need-i32-at-requires
 i32-at-requires c κs = search needs
 
@@ -83,9 +86,9 @@ i32-at-requires-24 c κs = search needs
 i32-at-requires-25 : tie.Need-i32-at-requires-25
 i32-at-requires-25 c κs = search needs
 
-returns : tie.Need-returns
+returns-2 : tie.Need-returns-2
 unfolding givenAt getAll
-returns c =
+returns-2 c e =
     λ i. record {
       zero = (got {w = w32} _ (c .before .before .before .before .before .before .before .before .before .before .before .before .before .before .before .before .before .before .before .before .before .before .before .before .i32-at .ok) .read ∙ c .before .before .before .before .before .before .before .before .before .before .before .before .before .before .before .before .before .before .before .before .before .before .before .before .i32-at .ensures) i;
       span = (got {w = w32} _ (c .before .before .before .before .before .before .before .before .before .before .before .before .before .before .before .before .before .before .before .before .before .before .before .i32-at2 .ok) .read ∙ c .before .before .before .before .before .before .before .before .before .before .before .before .before .before .before .before .before .before .before .before .before .before .before .i32-at2 .ensures) i;
@@ -118,6 +121,7 @@ pub given-at-spec : {M : Type 1} → statement M
 given-at-spec =
     tie.close
     (tie.spec
+    returns
     i32-at-requires
     i32-at-requires-2
     i32-at-requires-3
@@ -143,4 +147,4 @@ given-at-spec =
     i32-at-requires-23
     i32-at-requires-24
     i32-at-requires-25
-    returns)
+    returns-2)

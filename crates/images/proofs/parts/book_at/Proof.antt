@@ -4,8 +4,12 @@ use mir.Syntax.{w32, w64}
 use borrow.Author.Needs.{needs}
 use Rattle.whole.specs.Bits.{got}
 use Rattle.places.specs.Places.{getAll}
+use Rattle.images.specs.StateImage.{stateAt}
 use Rattle.images.proofs.parts.book_at.Statement.{statement}
 use Rattle.images.proofs.parts.book_at.Tie as tie
+
+returns : tie.Need-returns
+returns c e = absurd (c .if1 .taken e)
 
 i32-at-requires : tie.Need-i32-at-requires
 i32-at-requires c κs = search needs
@@ -31,9 +35,9 @@ flag-at-requires c κs = search needs
 flag-at-requires-2 : tie.Need-flag-at-requires-2
 flag-at-requires-2 c κs = search needs
 
-returns : tie.Need-returns
-unfolding getAll
-returns c =
+returns-2 : tie.Need-returns-2
+unfolding stateAt getAll
+returns-2 c e =
     λ i. record {
       opening = (got {w = w32} _ (c .before .before .before .before .before .before .before .i32-at .ok) .read ∙ c .before .before .before .before .before .before .before .i32-at .ensures) i;
       last = (got {w = w32} _ (c .before .before .before .before .before .before .i32-at2 .ok) .read ∙ c .before .before .before .before .before .before .i32-at2 .ensures) i;
@@ -49,6 +53,7 @@ pub book-at-spec : {M : Type 1} → statement M
 book-at-spec =
     tie.close
     (tie.spec
+    returns
     i32-at-requires
     i32-at-requires-2
     i64-at-requires
@@ -57,4 +62,4 @@ book-at-spec =
     u32-at-requires
     flag-at-requires
     flag-at-requires-2
-    returns)
+    returns-2)

@@ -10,12 +10,15 @@ use Rattle.places.proofs.Layouts.{put-all-length}
 use Rattle.places.specs.Places.{putBe, putAll, coded, flagTag}
 use Rattle.images.specs.StateImage.{bookRows, bookNumbers}
 use Rattle.images.specs.Holds.{HeldBook}
-use Rattle.images.proofs.InPlace.{turns-book}
+use Rattle.images.proofs.InPlace.{turns-book, holds-length}
 use Rattle.images.proofs.parts.put_book.Statement.{statement}
 use Rattle.images.proofs.parts.put_book.Tie as tie
 
 fields : (s : tie.Start) → HeldBook (s .args .b)
 fields s = record { opening = search sfits-of; last = search sfits-of; refilled = search sfits-of; used = search sfits-of; unbooked = search sfits-of; ticks = omega arith }
+
+returns : tie.Need-returns
+returns c st h = absurd (c .if1 .taken (holds-length h))
 
 put-i32-requires : tie.Need-put-i32-requires
 put-i32-requires c κs = search needs
@@ -42,7 +45,7 @@ put-flag-requires-2 : tie.Need-put-flag-requires-2
 put-flag-requires-2 c κs = search needs
 
 abbrev start : tie.After-slice-known9 → tie.Start
-start c = c .before .before .before .before .before .before .before .before .before .before .before .before .before .before .before .before .before .before .before .before .before .before .before .before .before .before .before .before .before .before .before .before .before .before .before .before .before .before
+start c = c .before .before .before .before .before .before .before .before .before .before .before .before .before .before .before .before .before .before .before .before .before .before .before .before .before .before .before .before .before .before .before .before .before .before .before .before .before .before .before
 
 written : (c : tie.After-slice-known9) → c .before .before .put-flag2 .last .0 ≡ putAll bookRows (bookNumbers (start c .args .b)) (start c .args .s .now)
 unfolding putAll
@@ -62,13 +65,14 @@ written c =
 same-length : tie.Need-same-length
 same-length c = ap length (written c) ∙ put-all-length bookRows (bookNumbers _) _
 
-returns : tie.Need-returns
-returns c = turns-book (start c .args .b) (fields (start c)) _ _ (written c)
+returns-2 : tie.Need-returns-2
+returns-2 c = turns-book (start c .args .b) (fields (start c)) _ _ (written c)
 
 pub put-book-spec : {M : Type 1} → statement M
 put-book-spec =
     tie.close
     (tie.spec
+    returns
     put-i32-requires
     put-i32-requires-2
     put-i64-requires
@@ -78,4 +82,4 @@ put-book-spec =
     put-flag-requires
     put-flag-requires-2
     same-length
-    returns)
+    returns-2)

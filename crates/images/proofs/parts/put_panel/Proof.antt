@@ -2,9 +2,12 @@
 use mathlib.Core.Path.{_∙_}
 use borrow.Author.Needs.{needs}
 use Rattle.places.specs.Places.{putBe, putAll}
-use Rattle.images.proofs.InPlace.{turns-panel}
+use Rattle.images.proofs.InPlace.{turns-panel, holds-length}
 use Rattle.images.proofs.parts.put_panel.Statement.{statement}
 use Rattle.images.proofs.parts.put_panel.Tie as tie
+
+returns : tie.Need-returns
+returns c st h = absurd (c .if1 .taken (holds-length h))
 
 display-number-requires : tie.Need-display-number-requires
 display-number-requires c κs = search needs
@@ -15,11 +18,11 @@ put-u8-requires c κs = search needs
 same-length : tie.Need-same-length
 same-length c = search needs
 
-returns : tie.Need-returns
+returns-2 : tie.Need-returns-2
 unfolding putAll
-returns c =
-    let a = c .before .before .before .before .before .before in
+returns-2 c =
+    let a = c .before .before .before .before .before .before .before in
     turns-panel (a .args .p) _ _ (c .before .before .put-u8 .ensures ∙ (λ i. putBe 1 (c .before .before .before .display-number .ensures i) (a .args .s .now) 58))
 
 pub put-panel-spec : {M : Type 1} → statement M
-put-panel-spec = tie.close (tie.spec display-number-requires put-u8-requires same-length returns)
+put-panel-spec = tie.close (tie.spec returns display-number-requires put-u8-requires same-length returns-2)

@@ -4,9 +4,12 @@ use native.Mathlib.Omega.{arith}
 use borrow.Author.Needs.{needs}
 use Rattle.places.specs.Places.{putBe, putAll}
 use Rattle.images.specs.Holds.{HeldSequence}
-use Rattle.images.proofs.InPlace.{turns-sequence}
+use Rattle.images.proofs.InPlace.{turns-sequence, holds-length}
 use Rattle.images.proofs.parts.put_sequence.Statement.{statement}
 use Rattle.images.proofs.parts.put_sequence.Tie as tie
+
+returns : tie.Need-returns
+returns c st h = absurd (c .if1 .taken (holds-length h))
 
 stage-number-requires : tie.Need-stage-number-requires
 stage-number-requires c κs = search needs
@@ -38,10 +41,10 @@ put-u8-requires-3 c κs = search needs
 same-length : tie.Need-same-length
 same-length c = search needs
 
-returns : tie.Need-returns
+returns-2 : tie.Need-returns-2
 unfolding putAll
-returns c =
-    let a = c .before .before .before .before .before .before .before .before .before .before .before .before .before .before .before .before .before .before .before .before .before .before .before .before .before in
+returns-2 c =
+    let a = c .before .before .before .before .before .before .before .before .before .before .before .before .before .before .before .before .before .before .before .before .before .before .before .before .before .before in
     let q = a .args .q in
     let e1 = c .before .before .before .before .before .before .before .before .before .before .before .before .before .before .before .before .before .before .before .before .before .put-u8 .ensures ∙ (λ i. putBe 1 (c .before .before .before .before .before .before .before .before .before .before .before .before .before .before .before .before .before .before .before .before .before .before .stage-number .ensures i) (a .args .s .now) 88) in
     let e2 = c .before .before .before .before .before .before .before .before .before .before .before .before .before .before .before .before .put-u16 .ensures ∙ (λ i. putBe 2 (c .before .before .before .before .before .before .before .before .before .before .before .before .before .before .before .before .before .stage-timer .ensures i) (e1 i) 90) in
@@ -54,6 +57,7 @@ pub put-sequence-spec : {M : Type 1} → statement M
 put-sequence-spec =
     tie.close
     (tie.spec
+    returns
     stage-number-requires
     put-u8-requires
     stage-timer-requires
@@ -64,4 +68,4 @@ put-sequence-spec =
     judgement-number-requires
     put-u8-requires-3
     same-length
-    returns)
+    returns-2)

@@ -4,9 +4,12 @@ use native.Mathlib.Omega.{arith}
 use borrow.Author.Needs.{needs}
 use Rattle.places.specs.Places.{putBe, putAll}
 use Rattle.images.specs.Holds.{HeldSetpoints}
-use Rattle.images.proofs.InPlace.{turns-setpoints}
+use Rattle.images.proofs.InPlace.{turns-setpoints, holds-length}
 use Rattle.images.proofs.parts.put_setpoints.Statement.{statement}
 use Rattle.images.proofs.parts.put_setpoints.Tie as tie
+
+returns : tie.Need-returns
+returns c st h = absurd (c .if1 .taken (holds-length h))
 
 put-u32-requires : tie.Need-put-u32-requires
 put-u32-requires c κs = search needs
@@ -35,10 +38,10 @@ same-length c = search needs
 fields : (s : tie.Start) → HeldSetpoints (s .args .p)
 fields s = record { target = omega arith; fall = omega arith; preliminary = omega arith; optional = omega arith; over = omega arith; under = omega arith; near = omega arith }
 
-returns : tie.Need-returns
+returns-2 : tie.Need-returns-2
 unfolding putAll
-returns c =
-    let a = c .before .before .before .before .before .before .before .before .before .before .before .before .before .before .before .before .before .before .before .before .before .before .before .before .before .before .before .before .before in
+returns-2 c =
+    let a = c .before .before .before .before .before .before .before .before .before .before .before .before .before .before .before .before .before .before .before .before .before .before .before .before .before .before .before .before .before .before in
     let p = a .args .p in
     let e1 = c .before .before .before .before .before .before .before .before .before .before .before .before .before .before .before .before .before .before .before .before .before .before .before .before .before .before .put-u32 .ensures in
     let e2 = c .before .before .before .before .before .before .before .before .before .before .before .before .before .before .before .before .before .before .before .before .before .before .put-u322 .ensures ∙ (λ i. putBe 4 (p .fall) (e1 i) 64) in
@@ -52,6 +55,7 @@ pub put-setpoints-spec : {M : Type 1} → statement M
 put-setpoints-spec =
     tie.close
     (tie.spec
+    returns
     put-u32-requires
     put-u32-requires-2
     put-u32-requires-3
@@ -60,4 +64,4 @@ put-setpoints-spec =
     put-u32-requires-6
     put-u32-requires-7
     same-length
-    returns)
+    returns-2)

@@ -4,9 +4,12 @@ use Prim.Native.Nat.{_^_, _<_}
 use native.Mathlib.Omega.{arith}
 use borrow.Author.Needs.{needs}
 use Rattle.places.specs.Places.{putBe, putAll}
-use Rattle.images.proofs.InPlace.{turns-stability}
+use Rattle.images.proofs.InPlace.{turns-stability, holds-length}
 use Rattle.images.proofs.parts.put_stability.Statement.{statement}
 use Rattle.images.proofs.parts.put_stability.Tie as tie
+
+returns : tie.Need-returns
+returns c st h = absurd (c .if1 .taken (holds-length h))
 
 put-flag-requires : tie.Need-put-flag-requires
 put-flag-requires c κs = search needs
@@ -17,14 +20,14 @@ put-u16-requires c κs = search needs
 same-length : tie.Need-same-length
 same-length c = search needs
 
-returns : tie.Need-returns
+returns-2 : tie.Need-returns-2
 unfolding putAll
-returns c =
-    let a = c .before .before .before .before .before .before .before .before .before in
+returns-2 c =
+    let a = c .before .before .before .before .before .before .before .before .before .before in
     let q = a .args .q in
     let e1 = c .before .before .before .before .before .before .put-flag .ensures in
     let f : q .run < 2 ^ 16 = omega (arith, c) in
     turns-stability q f _ _ (c .before .before .put-u16 .ensures ∙ (λ i. putBe 2 (q .run) (e1 i) 42))
 
 pub put-stability-spec : {M : Type 1} → statement M
-put-stability-spec = tie.close (tie.spec put-flag-requires put-u16-requires same-length returns)
+put-stability-spec = tie.close (tie.spec returns put-flag-requires put-u16-requires same-length returns-2)

@@ -4,9 +4,12 @@ use native.Mathlib.Omega.{arith}
 use borrow.Author.Needs.{needs}
 use Rattle.places.specs.Places.{putBe, putAll}
 use Rattle.images.specs.Holds.{HeldTotals}
-use Rattle.images.proofs.InPlace.{turns-totals}
+use Rattle.images.proofs.InPlace.{turns-totals, holds-length}
 use Rattle.images.proofs.parts.put_totals.Statement.{statement}
 use Rattle.images.proofs.parts.put_totals.Tie as tie
+
+returns : tie.Need-returns
+returns c st h = absurd (c .if1 .taken (holds-length h))
 
 put-u64-requires : tie.Need-put-u64-requires
 put-u64-requires c κs = search needs
@@ -29,10 +32,10 @@ put-u64-requires-2 c κs = search needs
 same-length : tie.Need-same-length
 same-length c = search needs
 
-returns : tie.Need-returns
+returns-2 : tie.Need-returns-2
 unfolding putAll
-returns c =
-    let a = c .before .before .before .before .before .before .before .before .before .before .before .before .before .before .before .before .before .before .before in
+returns-2 c =
+    let a = c .before .before .before .before .before .before .before .before .before .before .before .before .before .before .before .before .before .before .before .before in
     let t = a .args .t in
     let e1 = c .before .before .before .before .before .before .before .before .before .before .before .before .before .before .before .before .put-u64 .ensures in
     let e2 = c .before .before .before .before .before .before .before .before .before .before .before .before .put-u32 .ensures ∙ (λ i. putBe 4 (t .count) (e1 i) 104) in
@@ -44,6 +47,7 @@ pub put-totals-spec : {M : Type 1} → statement M
 put-totals-spec =
     tie.close
     (tie.spec
+    returns
     put-u64-requires
     put-u32-requires
     back-tag-requires
@@ -51,4 +55,4 @@ put-totals-spec =
     back-weight-requires
     put-u64-requires-2
     same-length
-    returns)
+    returns-2)

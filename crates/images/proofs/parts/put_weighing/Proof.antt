@@ -7,12 +7,15 @@ use Rattle.whole.specs.Bits.{arg}
 use Rattle.whole.specs.Machine.{sfits-of}
 use Rattle.places.specs.Places.{putBe, putAll, coded}
 use Rattle.images.specs.Holds.{HeldWeighing}
-use Rattle.images.proofs.InPlace.{turns-weighing}
+use Rattle.images.proofs.InPlace.{turns-weighing, holds-length}
 use Rattle.images.proofs.parts.put_weighing.Statement.{statement}
 use Rattle.images.proofs.parts.put_weighing.Tie as tie
 
 fields : (s : tie.Start) → HeldWeighing (s .args .w)
 fields s = record { zero = search sfits-of; tracked = search sfits-of; tare = search sfits-of; counter = omega arith }
+
+returns : tie.Need-returns
+returns c st h = absurd (c .if1 .taken (holds-length h))
 
 put-i32-requires : tie.Need-put-i32-requires
 put-i32-requires c κs = search needs
@@ -29,10 +32,10 @@ put-u16-requires c κs = search needs
 same-length : tie.Need-same-length
 same-length c = search needs
 
-returns : tie.Need-returns
+returns-2 : tie.Need-returns-2
 unfolding putAll
-returns c =
-    let a = c .before .before .before .before .before .before .before .before .before .before .before .before .before .before .before .before .before .before .before .before in
+returns-2 c =
+    let a = c .before .before .before .before .before .before .before .before .before .before .before .before .before .before .before .before .before .before .before .before .before in
     let w = a .args .w in
     let f = fields a in
     let e1 = c .before .before .before .before .before .before .before .before .before .before .before .before .before .before .before .before .put-i32 .ensures ∙ (λ i. putBe 4 (coded w32 (arg (f .zero) .read i)) (a .args .s .now) 44) in
@@ -44,9 +47,10 @@ pub put-weighing-spec : {M : Type 1} → statement M
 put-weighing-spec =
     tie.close
     (tie.spec
+    returns
     put-i32-requires
     put-i32-requires-2
     put-i32-requires-3
     put-u16-requires
     same-length
-    returns)
+    returns-2)

@@ -2,9 +2,12 @@
 use mathlib.Core.Path.{ap, _∙_}
 use borrow.Author.Needs.{needs}
 use Rattle.places.specs.Places.{getAll}
-use Rattle.images.specs.StateImage.{errorOf, judgementOf, stageOf}
+use Rattle.images.specs.StateImage.{stateAt, errorOf, judgementOf, stageOf}
 use Rattle.images.proofs.parts.sequence_at.Statement.{statement}
 use Rattle.images.proofs.parts.sequence_at.Tie as tie
+
+returns : tie.Need-returns
+returns c e = absurd (c .if1 .taken e)
 
 u8-at-requires : tie.Need-u8-at-requires
 u8-at-requires c κs = search needs
@@ -30,9 +33,9 @@ u8-at-requires-3 c κs = search needs
 judgement-of-requires : tie.Need-judgement-of-requires
 judgement-of-requires c κs = search needs
 
-returns : tie.Need-returns
-unfolding getAll
-returns c =
+returns-2 : tie.Need-returns-2
+unfolding stateAt getAll
+returns-2 c e =
     λ i. record {
       stage = (c .before .before .before .before .before .stage-of .ensures ∙ (λ j. stageOf (c .before .before .before .before .before .before .before .u8-at .ensures j) (c .before .before .before .before .before .before .u16-at .ensures j))) i;
       clock = c .before .before .before .before .u16-at2 .ensures i;
@@ -44,6 +47,7 @@ pub sequence-at-spec : {M : Type 1} → statement M
 sequence-at-spec =
     tie.close
     (tie.spec
+    returns
     u8-at-requires
     u16-at-requires
     stage-of-requires
@@ -52,4 +56,4 @@ sequence-at-spec =
     error-of-requires
     u8-at-requires-3
     judgement-of-requires
-    returns)
+    returns-2)

@@ -1,8 +1,12 @@
 -- Each field is the number at its place, a line a row.
 use borrow.Author.Needs.{needs}
 use Rattle.places.specs.Places.{getAll}
+use Rattle.images.specs.StateImage.{stateAt}
 use Rattle.images.proofs.parts.setpoints_at.Statement.{statement}
 use Rattle.images.proofs.parts.setpoints_at.Tie as tie
+
+returns : tie.Need-returns
+returns c e = absurd (c .if1 .taken e)
 
 u32-at-requires : tie.Need-u32-at-requires
 u32-at-requires c κs = search needs
@@ -25,9 +29,9 @@ u32-at-requires-6 c κs = search needs
 u32-at-requires-7 : tie.Need-u32-at-requires-7
 u32-at-requires-7 c κs = search needs
 
-returns : tie.Need-returns
-unfolding getAll
-returns c =
+returns-2 : tie.Need-returns-2
+unfolding stateAt getAll
+returns-2 c e =
     λ i. record {
       target = c .before .before .before .before .before .before .u32-at .ensures i;
       fall = c .before .before .before .before .before .u32-at2 .ensures i;
@@ -42,6 +46,7 @@ pub setpoints-at-spec : {M : Type 1} → statement M
 setpoints-at-spec =
     tie.close
     (tie.spec
+    returns
     u32-at-requires
     u32-at-requires-2
     u32-at-requires-3
@@ -49,4 +54,4 @@ setpoints-at-spec =
     u32-at-requires-5
     u32-at-requires-6
     u32-at-requires-7
-    returns)
+    returns-2)

@@ -2,9 +2,12 @@
 use mathlib.Core.Path.{_∙_}
 use borrow.Author.Needs.{needs}
 use Rattle.places.specs.Places.{getAll}
-use Rattle.images.specs.StateImage.{backOf}
+use Rattle.images.specs.StateImage.{stateAt, backOf}
 use Rattle.images.proofs.parts.totals_at.Statement.{statement}
 use Rattle.images.proofs.parts.totals_at.Tie as tie
+
+returns : tie.Need-returns
+returns c e = absurd (c .if1 .taken e)
 
 u64-at-requires : tie.Need-u64-at-requires
 u64-at-requires c κs = search needs
@@ -21,9 +24,9 @@ u64-at-requires-2 c κs = search needs
 back-of-requires : tie.Need-back-of-requires
 back-of-requires c κs = search needs
 
-returns : tie.Need-returns
-unfolding getAll
-returns c =
+returns-2 : tie.Need-returns-2
+unfolding stateAt getAll
+returns-2 c e =
     λ i. record {
       total = c .before .before .before .before .u64-at .ensures i;
       count = c .before .before .before .u32-at .ensures i;
@@ -34,9 +37,10 @@ pub totals-at-spec : {M : Type 1} → statement M
 totals-at-spec =
     tie.close
     (tie.spec
+    returns
     u64-at-requires
     u32-at-requires
     u8-at-requires
     u64-at-requires-2
     back-of-requires
-    returns)
+    returns-2)

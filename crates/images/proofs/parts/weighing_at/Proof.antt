@@ -4,8 +4,12 @@ use mir.Syntax.{w32}
 use borrow.Author.Needs.{needs}
 use Rattle.whole.specs.Bits.{got}
 use Rattle.places.specs.Places.{getAll}
+use Rattle.images.specs.StateImage.{stateAt}
 use Rattle.images.proofs.parts.weighing_at.Statement.{statement}
 use Rattle.images.proofs.parts.weighing_at.Tie as tie
+
+returns : tie.Need-returns
+returns c e = absurd (c .if1 .taken e)
 
 i32-at-requires : tie.Need-i32-at-requires
 i32-at-requires c κs = search needs
@@ -19,9 +23,9 @@ i32-at-requires-3 c κs = search needs
 u16-at-requires : tie.Need-u16-at-requires
 u16-at-requires c κs = search needs
 
-returns : tie.Need-returns
-unfolding getAll
-returns c =
+returns-2 : tie.Need-returns-2
+unfolding stateAt getAll
+returns-2 c e =
     λ i. record {
       zero = (got {w = w32} _ (c .before .before .before .i32-at .ok) .read ∙ c .before .before .before .i32-at .ensures) i;
       tracked = (got {w = w32} _ (c .before .before .i32-at2 .ok) .read ∙ c .before .before .i32-at2 .ensures) i;
@@ -32,4 +36,4 @@ returns c =
 pub weighing-at-spec : {M : Type 1} → statement M
 weighing-at-spec =
     tie.close
-    (tie.spec i32-at-requires i32-at-requires-2 i32-at-requires-3 u16-at-requires returns)
+    (tie.spec returns i32-at-requires i32-at-requires-2 i32-at-requires-3 u16-at-requires returns-2)

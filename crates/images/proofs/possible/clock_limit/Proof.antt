@@ -1,38 +1,30 @@
 -- By the tests in their order; a setting counts without its sign.
-use mir.Facts.{toZ-ofZ}
 use borrow.Author.Tests.{le-leb, le-ltb, lt-leb, lt-ltb}
 use borrow.Author.Needs.{needs}
-use Rattle.whole.specs.Machine.{sfits-of}
-use Rattle.settings.specs.Held.{Held}
+use Rattle.places.specs.Places.{getAll}
 use Rattle.outline.specs.Settings.{settingsOf}
+use Rattle.images.specs.GivenImage.{givenAt}
 use Rattle.images.specs.Possible.{clockLimit}
 use Rattle.images.proofs.possible.clock_limit.Statement.{statement}
 use Rattle.images.proofs.possible.clock_limit.Tie as tie
-
-held : (s : tie.Start) → Held (s .args .g)
-held s = search sfits-of
 
 returns : tie.Need-returns
 unfolding clockLimit
 returns c = simp (lt-ltb _ _ (c .if1 .taken))
 
-size-requires : tie.Need-size-requires
-size-requires c κs = search needs
+given-requires : tie.Need-given-requires
+given-requires c κs = search needs
 
 returns-2 : tie.Need-returns-2
-unfolding clockLimit settingsOf
-returns-2 c =
-    let s = c .before .before .before .before in
-    simp (c .size .ensures, le-leb _ _ (c .before .before .if2 .taken), le-ltb _ _ (c .before .before .before .if1 .left), toZ-ofZ (held s .flow))
+unfolding clockLimit settingsOf givenAt getAll
+returns-2 c = simp (c .given .ensures, le-leb _ _ (c .before .if2 .taken), le-ltb _ _ (c .before .before .if1 .left))
 
-size-requires-2 : tie.Need-size-requires-2
-size-requires-2 c κs = search needs
+given-requires-2 : tie.Need-given-requires-2
+given-requires-2 c κs = search needs
 
 returns-3 : tie.Need-returns-3
-unfolding clockLimit settingsOf
-returns-3 c =
-    let s = c .before .before .before .before .before in
-    simp (c .size2 .ensures, le-leb _ _ (c .before .before .if3 .taken), lt-leb _ _ (c .before .before .before .if2 .left), le-ltb _ _ (c .before .before .before .before .if1 .left), toZ-ofZ (held s .dischargelimit))
+unfolding clockLimit settingsOf givenAt getAll
+returns-3 c = simp (c .given2 .ensures, le-leb _ _ (c .before .if3 .taken), lt-leb _ _ (c .before .before .if2 .left), le-ltb _ _ (c .before .before .before .if1 .left))
 
 returns-4 : tie.Need-returns-4
 unfolding clockLimit
@@ -40,4 +32,4 @@ returns-4 c = simp (lt-leb _ _ (c .if3 .left), lt-leb _ _ (c .before .if2 .left)
 
 pub clock-limit-spec : {M : Type 1} → statement M
 clock-limit-spec =
-    tie.close (tie.spec returns size-requires returns-2 size-requires-2 returns-3 returns-4)
+    tie.close (tie.spec returns given-requires returns-2 given-requires-2 returns-3 returns-4)

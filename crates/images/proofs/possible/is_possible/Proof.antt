@@ -1,81 +1,117 @@
--- Part by part.
-use mathlib.Core.Path.{_∙_}
-use mathlib.Core.Bool.{_&&_}
+-- Part by part: a day book, totals or a weighing that is not possible ends the test; after them the rest is asked.
+use mathlib.Core.Path.{_≡_, sym, ap, _∙_}
+use lib.ListN.{length}
+use borrow.Author.Tests.{not-true, not-false}
 use borrow.Author.Needs.{needs}
 use Rattle.outline.specs.Settings.{settingsOf}
-use Rattle.outline.specs.Setpoints.{setpointsFit}
-use Rattle.images.specs.Possible.{sequenceFits, togetherFits, possible}
+use Rattle.images.specs.StateImage.{stateLength, stateAt}
+use Rattle.images.specs.GivenImage.{givenAt}
+use Rattle.images.specs.Possible.{bookPossible, weighingPossible, totalsPossible, restPossible}
+use Rattle.images.proofs.Tests.{not-book, not-weighing, not-totals, rest}
 use Rattle.images.proofs.possible.is_possible.Statement.{statement}
 use Rattle.images.proofs.possible.is_possible.Tie as tie
 
-given-mode-requires : tie.Need-given-mode-requires
-given-mode-requires c κs = search needs
+-- what was judged is the part at its places
+book : (c : tie.After-is-book) →
+    let l = c .before .before .before .before .before .before .args .s .now in
+    length l ≡ stateLength → c .is-book .result ≡ bookPossible (stateAt l .book)
+book c f = c .is-book .ensures ∙ ap bookPossible (c .before .book-at .ensures f)
 
-stage-number-requires : tie.Need-stage-number-requires
-stage-number-requires c κs = search needs
+totals : (c : tie.After-is-totals) →
+    let l = c .before .before .before .before .before .before .before .before .before .args .s .now in
+    length l ≡ stateLength → c .is-totals .result ≡ totalsPossible (stateAt l .totals)
+totals c f = c .is-totals .ensures ∙ ap totalsPossible (c .before .totals-at .ensures f)
 
-stage-timer-requires : tie.Need-stage-timer-requires
-stage-timer-requires c κs = search needs
+weighing : (c : tie.After-is-weighing) →
+    let s = c .before .before .before .before .before .before .before .before .before .before .before .before .args in
+    let g = settingsOf (givenAt (s .g .now)) in
+    length (s .s .now) ≡ stateLength → c .is-weighing .result ≡ weighingPossible (g .range) (g .tracking) (stateAt (s .s .now) .weighing)
+weighing c f =
+    let g = settingsOf (givenAt (c .before .before .before .before .before .before .before .before .before .before .before .before .args .g .now)) in
+    c .is-weighing .ensures ∙ ap (weighingPossible (g .range) (g .tracking)) (c .before .weighing-at .ensures f)
 
-error-number-requires : tie.Need-error-number-requires
-error-number-requires c κs = search needs
+returns : tie.Need-returns
+returns c e f = absurd (c .if1 .taken e)
 
-judgement-number-requires : tie.Need-judgement-number-requires
-judgement-number-requires c κs = search needs
+returns-2 : tie.Need-returns-2
+returns-2 c e f = absurd (c .if2 .taken f)
+
+book-at-requires : tie.Need-book-at-requires
+book-at-requires c κs = search needs
 
 is-book-requires : tie.Need-is-book-requires
 is-book-requires c κs = search needs
 
-is-stability-requires : tie.Need-is-stability-requires
-is-stability-requires c κs = search needs
+returns-3 : tie.Need-returns-3
+returns-3 c e f = not-book _ _ (sym (book (c .before) f) ∙ not-true _ (c .if3 .taken))
 
-is-weighing-requires : tie.Need-is-weighing-requires
-is-weighing-requires c κs = search needs
-
-setpoints-fit-requires : tie.Need-setpoints-fit-requires
-setpoints-fit-requires c κs = search needs
-
-is-sequence-requires : tie.Need-is-sequence-requires
-is-sequence-requires c κs = search needs
+totals-at-requires : tie.Need-totals-at-requires
+totals-at-requires c κs = search needs
 
 is-totals-requires : tie.Need-is-totals-requires
 is-totals-requires c κs = search needs
 
-is-together-requires : tie.Need-is-together-requires
-is-together-requires c κs = search needs
+returns-4 : tie.Need-returns-4
+returns-4 c e f = not-totals _ _ (sym (totals (c .before) f) ∙ not-true _ (c .if4 .taken))
 
-returns : tie.Need-returns
-unfolding possible
-returns c =
-    let st = c .before .before .before .before .before .before .before .before .before .before .before .before .before .args .st in
-    let b = settingsOf (c .before .before .before .before .before .before .before .before .before .before .before .before .before .args .g) .batching in
-    let mode = c .before .before .before .before .before .before .before .before .before .before .before .before .given-mode .ensures in
-    let n = c .before .before .before .before .before .before .before .before .before .before .stage-number .ensures in
-    let t = c .before .before .before .before .before .before .before .before .before .stage-timer .ensures in
-    let e = c .before .before .before .before .before .before .before .before .error-number .ensures in
-    let j = c .before .before .before .before .before .before .before .judgement-number .ensures in
-    λ i. c .before .before .before .before .before .before .is-book .ensures i
-    && c .before .before .before .before .before .is-stability .ensures i
-    && c .before .before .before .before .is-weighing .ensures i
-    && (c .before .before .before .setpoints-fit .ensures ∙ (λ k. setpointsFit (mode k) (st .setpoints))) i
-    && (c .before .before .is-sequence .ensures ∙ (λ k. sequenceFits b (n k) (t k) (st .sequence .clock) (e k) (j k))) i
-    && c .before .is-totals .ensures i
-    && (c .is-together .ensures ∙ (λ k. togetherFits (mode k) (st .setpoints) (n k) (st .stability .good) (st .book .begun) (st .weighing .counter))) i
+weighing-at-requires : tie.Need-weighing-at-requires
+weighing-at-requires c κs = search needs
+
+is-weighing-requires : tie.Need-is-weighing-requires
+is-weighing-requires c κs = search needs
+
+returns-5 : tie.Need-returns-5
+returns-5 c e f = not-weighing _ _ (sym (weighing (c .before) f) ∙ not-true _ (c .if5 .taken))
+
+stability-at-requires : tie.Need-stability-at-requires
+stability-at-requires c κs = search needs
+
+setpoints-at-requires : tie.Need-setpoints-at-requires
+setpoints-at-requires c κs = search needs
+
+sequence-at-requires : tie.Need-sequence-at-requires
+sequence-at-requires c κs = search needs
+
+is-rest-requires : tie.Need-is-rest-requires
+is-rest-requires c κs = search needs
+
+returns-6 : tie.Need-returns-6
+returns-6 c e f =
+    let e5 = c .before .before .before .before in
+    let e4 = e5 .before .before .before in
+    let e3 = e4 .before .before .before in
+    let s = e3 .before .before .before .before .before .before .before .args in
+    let st = stateAt (s .s .now) in
+    let at = e3 .before .before .book-at .ensures f in
+    let scales = e5 .before .before .weighing-at .ensures f in
+    let q = c .before .before .before .stability-at .ensures f in
+    let p = c .before .before .setpoints-at .ensures f in
+    let x = c .before .sequence-at .ensures f in
+    let g = settingsOf (givenAt (s .g .now)) in
+    c .is-rest .ensures
+    ∙ (λ i. restPossible g (q i) (p i) (x i) (at i .begun) (scales i .counter))
+    ∙ rest g st
+    (sym (book (e3 .before) f) ∙ not-false _ (e3 .if3 .left))
+    (sym (totals (e4 .before) f) ∙ not-false _ (e4 .if4 .left))
+    (sym (weighing (e5 .before) f) ∙ not-false _ (e5 .if5 .left))
 
 pub is-possible-spec : {M : Type 1} → statement M
 is-possible-spec =
     tie.close
     (tie.spec
-    given-mode-requires
-    stage-number-requires
-    stage-timer-requires
-    error-number-requires
-    judgement-number-requires
+    returns
+    returns-2
+    book-at-requires
     is-book-requires
-    is-stability-requires
-    is-weighing-requires
-    setpoints-fit-requires
-    is-sequence-requires
+    returns-3
+    totals-at-requires
     is-totals-requires
-    is-together-requires
-    returns)
+    returns-4
+    weighing-at-requires
+    is-weighing-requires
+    returns-5
+    stability-at-requires
+    setpoints-at-requires
+    sequence-at-requires
+    is-rest-requires
+    returns-6)

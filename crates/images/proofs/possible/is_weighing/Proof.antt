@@ -13,15 +13,13 @@ use mir.Facts.{toZ-ofZ}
 use borrow.Author.Needs.{needs}
 use Rattle.whole.specs.Bits.{got, be, eqb-is}
 use Rattle.whole.specs.Machine.{sfits-of, fits-of}
-use Rattle.settings.specs.Held.{Held}
+use Rattle.places.specs.Places.{getAll}
 use Rattle.types.specs.declared.weight.Weighing.{Weighing}
 use Rattle.outline.specs.Settings.{settingsOf}
+use Rattle.images.specs.GivenImage.{givenAt}
 use Rattle.images.specs.Possible.{weighingPossible}
 use Rattle.images.proofs.possible.is_weighing.Statement.{statement}
 use Rattle.images.proofs.possible.is_weighing.Tie as tie
-
-held : (s : tie.Start) → Held (s .args .g)
-held s = search sfits-of
 
 record Signed (w : Weighing) : Type 0 where
   zero : SFits w32 (w .zero)
@@ -34,29 +32,29 @@ fields s = record { zero = search sfits-of; tracked = search sfits-of; tare = se
 product : (a b : ℕ) → a < 2 ^ 32 → b < 2 ^ 32 → Fits w64 (a * b)
 product a b h k = fits-of (N.lt-of-le-of-lt (N.mul-le-mul {n₂ = 4294967295} {m₂ = 4294967295} (omega (arith, h)) (omega (arith, k))) (lit< tt))
 
-size-requires : tie.Need-size-requires
-size-requires c κs = search needs
+given-requires : tie.Need-given-requires
+given-requires c κs = search needs
 
 cast-capacity : tie.Need-cast-capacity
 cast-capacity c = search needs
 
-size-requires-2 : tie.Need-size-requires-2
-size-requires-2 c κs = search needs
+given-requires-2 : tie.Need-given-requires-2
+given-requires-2 c κs = search needs
 
 cast-zeroes : tie.Need-cast-zeroes
 cast-zeroes c = search needs
 
 mul-zeroes : tie.Need-mul-zeroes
-mul-zeroes c = product (c .before .before .size .result) (c .size2 .result) (c .before .before .size .ok) (c .size2 .ok)
+mul-zeroes c = product (c .before .given .result) (c .given2 .result) (c .before .given .ok) (c .given2 .ok)
 
-size-requires-3 : tie.Need-size-requires-3
-size-requires-3 c κs = search needs
+given-requires-3 : tie.Need-given-requires-3
+given-requires-3 c κs = search needs
 
 cast-tares : tie.Need-cast-tares
 cast-tares c = search needs
 
 mul-tares : tie.Need-mul-tares
-mul-tares c = product (c .before .before .before .before .size .result) (c .size3 .result) (c .before .before .before .before .size .ok) (c .size3 .ok)
+mul-tares c = product (c .before .before .given .result) (c .given3 .result) (c .before .before .given .ok) (c .given3 .ok)
 
 wide-requires : tie.Need-wide-requires
 wide-requires c κs = search needs
@@ -70,17 +68,17 @@ difference-requires c κs = search needs
 magnitude-requires-2 : tie.Need-magnitude-requires-2
 magnitude-requires-2 c κs = search needs
 
-size-requires-4 : tie.Need-size-requires-4
-size-requires-4 c κs = search needs
+size-requires : tie.Need-size-requires
+size-requires c κs = search needs
 
-size-requires-5 : tie.Need-size-requires-5
-size-requires-5 c κs = search needs
+given-requires-4 : tie.Need-given-requires-4
+given-requires-4 c κs = search needs
 
 cast-result : tie.Need-cast-result
 cast-result c = search needs
 
-size-requires-6 : tie.Need-size-requires-6
-size-requires-6 c κs = search needs
+given-requires-5 : tie.Need-given-requires-5
+given-requires-5 c κs = search needs
 
 at-least-one-requires : tie.Need-at-least-one-requires
 at-least-one-requires c κs = search needs
@@ -95,20 +93,19 @@ is-tracking-requires : tie.Need-is-tracking-requires
 is-tracking-requires c κs = search needs
 
 returns : tie.Need-returns
-unfolding weighingPossible settingsOf
+unfolding weighingPossible settingsOf givenAt getAll
 returns c =
-    let s = c .before .before .before .before .before .before .before .before .before .before .before .before .before .before .before .before .before .before .before .before .before .before .before .before .before .before .before .before .before .before in
-    let h = held s in
+    let s = c .before .before .before .before .before .before .before .before .before .before .before .before .before .before .before .before .before .before .before .before .before .before .before .before .before .before in
     let f = fields s in
     let w = s .args .w in
-    let capacity = c .before .before .before .before .before .before .before .before .before .before .before .before .before .before .before .before .before .before .before .before .before .before .before .before .before .before .before .before .size .ensures ∙ ap natAbs (toZ-ofZ (h .capacity)) in
-    let zeroing = c .before .before .before .before .before .before .before .before .before .before .before .before .before .before .before .before .before .before .before .before .before .before .before .before .before .before .size2 .ensures ∙ ap natAbs (toZ-ofZ (h .zeroing)) in
-    let division = c .before .before .before .before .before .before .before .before .before .before .before .before .before .before .before .before .before .before .before .before .before .before .before .before .size3 .ensures ∙ ap natAbs (toZ-ofZ (h .division)) in
-    let zero = c .before .before .before .before .before .before .before .before .before .before .before .before .before .before .before .before .before .before .before .before .before .magnitude .ensures ∙ ap natAbs (be (got {w = w64} (c .before .before .before .before .before .before .before .before .before .before .before .before .before .before .before .before .before .before .before .before .before .before .wide .result) (c .before .before .before .before .before .before .before .before .before .before .before .before .before .before .before .before .before .before .before .before .before .before .wide .ok)) (c .before .before .before .before .before .before .before .before .before .before .before .before .before .before .before .before .before .before .before .before .before .before .wide .ensures) .read ∙ toZ-ofZ (f .zero)) in
-    let keyed = c .before .before .before .before .before .before .before .before .before .before .before .before .before .before .before .before .before .magnitude2 .ensures ∙ ap natAbs (be (got {w = w64} (c .before .before .before .before .before .before .before .before .before .before .before .before .before .before .before .before .before .before .difference .result) (c .before .before .before .before .before .before .before .before .before .before .before .before .before .before .before .before .before .before .difference .ok)) (c .before .before .before .before .before .before .before .before .before .before .before .before .before .before .before .before .before .before .difference .ensures) .read ∙ (λ k. toZ-ofZ (f .zero) k -ℤ toZ-ofZ (f .tracked) k)) in
-    let tracked = c .before .before .before .before .before .before .before .before .before .before .before .before .before .before .before .size4 .ensures ∙ ap natAbs (toZ-ofZ (f .tracked)) in
-    let allowance = c .before .before .before .before .before .before .before .before .before .before .before .before .before .size5 .ensures ∙ ap natAbs (toZ-ofZ (h .allowance)) in
-    let time = c .before .before .before .before .before .before .before .before .before .at-least-one .ensures ∙ (λ k. max ((c .before .before .before .before .before .before .before .before .before .before .size6 .ensures ∙ ap natAbs (toZ-ofZ (h .tracktime))) k) 1) in
+    let capacity = c .before .before .before .before .before .before .before .before .before .before .before .before .before .before .before .before .before .before .before .before .before .before .before .before .given .ensures in
+    let zeroing = c .before .before .before .before .before .before .before .before .before .before .before .before .before .before .before .before .before .before .before .before .before .before .before .given2 .ensures in
+    let division = c .before .before .before .before .before .before .before .before .before .before .before .before .before .before .before .before .before .before .before .before .before .before .given3 .ensures in
+    let zero = c .before .before .before .before .before .before .before .before .before .before .before .before .before .before .before .before .before .before .before .magnitude .ensures ∙ ap natAbs (be (got {w = w64} (c .before .before .before .before .before .before .before .before .before .before .before .before .before .before .before .before .before .before .before .before .wide .result) (c .before .before .before .before .before .before .before .before .before .before .before .before .before .before .before .before .before .before .before .before .wide .ok)) (c .before .before .before .before .before .before .before .before .before .before .before .before .before .before .before .before .before .before .before .before .wide .ensures) .read ∙ toZ-ofZ (f .zero)) in
+    let keyed = c .before .before .before .before .before .before .before .before .before .before .before .before .before .before .before .magnitude2 .ensures ∙ ap natAbs (be (got {w = w64} (c .before .before .before .before .before .before .before .before .before .before .before .before .before .before .before .before .difference .result) (c .before .before .before .before .before .before .before .before .before .before .before .before .before .before .before .before .difference .ok)) (c .before .before .before .before .before .before .before .before .before .before .before .before .before .before .before .before .difference .ensures) .read ∙ (λ k. toZ-ofZ (f .zero) k -ℤ toZ-ofZ (f .tracked) k)) in
+    let tracked = c .before .before .before .before .before .before .before .before .before .before .before .before .before .size .ensures ∙ ap natAbs (toZ-ofZ (f .tracked)) in
+    let allowance = c .before .before .before .before .before .before .before .before .before .before .before .before .given4 .ensures in
+    let time = c .before .before .before .before .before .before .before .before .before .at-least-one .ensures ∙ (λ k. max (c .before .before .before .before .before .before .before .before .before .before .given5 .ensures k) 1) in
     let tare = c .before .before .before .before .magnitude3 .ensures ∙ ap natAbs (be (got {w = w64} (c .before .before .before .before .before .wide2 .result) (c .before .before .before .before .before .wide2 .ok)) (c .before .before .before .before .before .wide2 .ensures) .read ∙ toZ-ofZ (f .tare)) in
     λ i. leb (zero i) (capacity i * zeroing i / 10)
     && leb (keyed i) (capacity i * zeroing i / 10)
@@ -122,22 +119,22 @@ pub is-weighing-spec : {M : Type 1} → statement M
 is-weighing-spec =
     tie.close
     (tie.spec
-    size-requires
+    given-requires
     cast-capacity
-    size-requires-2
+    given-requires-2
     cast-zeroes
     mul-zeroes
-    size-requires-3
+    given-requires-3
     cast-tares
     mul-tares
     wide-requires
     magnitude-requires
     difference-requires
     magnitude-requires-2
-    size-requires-4
-    size-requires-5
+    size-requires
+    given-requires-4
     cast-result
-    size-requires-6
+    given-requires-5
     at-least-one-requires
     wide-requires-2
     magnitude-requires-3

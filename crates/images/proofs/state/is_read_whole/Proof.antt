@@ -89,7 +89,7 @@ returns c =
     let c3 = c4 .before in
     let c2 = c3 .before in
     let c1 = c2 .before in
-    let start = c1 .before .before .before .before in
+    let start = c1 .before .before in
     (λ i.
     (c2 .is-flag .ensures ∙ (λ k. leb (c1 .u8-at .ensures k) 1)) i
     && (c4 .is-flag2 .ensures ∙ (λ k. leb (c3 .u8-at2 .ensures k) 1)) i
@@ -101,7 +101,7 @@ returns c =
     && eqb (c15 .judgement-number .ensures i) (c16 .u8-at7 .ensures i)
     && eqb (c17 .back-tag .ensures i) (c18 .u8-at8 .ensures i)
     && eqb (c19 .back-weight .ensures i) (c20 .u64-at .ensures i))
-    ∙ whole (start .args .s .now) (λ k. c1 .before .before .before .shared-slice-known .given k .fits) (start .args .st) (start .pre)
+    ∙ whole (start .args .s .now) (λ k. c1 .before .shared-slice-known .given k .fits) (start .args .q) (start .args .t) (start .pre .0) (start .pre .1)
 
 pub is-read-whole-spec : {M : Type 1} → statement M
 is-read-whole-spec =

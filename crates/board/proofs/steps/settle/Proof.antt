@@ -1,0 +1,417 @@
+-- Request by request: the part that it changes, and the day that it closes.
+use mathlib.Core.Path.{refl, ap, _∙_}
+use mathlib.Core.List.{List}
+use Prim.Native.Nat.{ℕ}
+use lib.IntN.{pos}
+use mir.Syntax.{w32}
+use mir.Val.{SFits}
+use mir.Facts.{toZ-ofZ}
+use Rattle.whole.specs.Machine.{sfits-of}
+use Rattle.types.specs.declared.daybook.Closed.the-variants as closed
+use Rattle.types.specs.declared.machine.State.{State}
+use Rattle.types.specs.declared.machine.Settled.{Settled}
+use Rattle.outline.specs.Zero.{zeroedOf, taredOf}
+use Rattle.outline.specs.Stages.{stopSequence, dischargeSequence}
+use Rattle.outline.specs.Totals.{takenBack}
+use Rattle.outline.specs.Steps.{left-nothing, left-zero, left-tare, left-tare-clear, left-start, left-stop, left-set, left-total-clear, left-undo, left-gross, left-net, left-close, left-discharge}
+use Rattle.board.specs.InPlace.{closedPut}
+use Rattle.board.proofs.Held.{read-part, held-as}
+use Rattle.board.proofs.InTwo.{over-none}
+use borrow.Author.Needs.{needs}
+use Rattle.board.proofs.steps.settle.Statement.{statement}
+use Rattle.board.proofs.steps.settle.Tie as tie
+
+raw : (s : tie.Start) → SFits w32 (s .args .x .raw)
+raw s = search (sfits-of, s .good .1 .0)
+
+gross : (s : tie.Start) → SFits w32 (s .args .x .gross)
+gross s = search (sfits-of, s .good .1 .0)
+
+abbrev leaving : Settled → State
+leaving a = a .state
+
+-- the answer with the day that was closed
+abbrev closing : List ℕ → Settled → List ℕ
+closing l a = closedPut (a .closed) l
+
+put-none-requires : tie.Need-put-none-requires
+put-none-requires c κs = search needs
+
+enum-told : tie.Need-enum-told
+enum-told c = search needs
+
+same-length : tie.Need-same-length
+same-length c = search needs
+
+returns : tie.Need-returns
+returns c =
+    let start = c .before .before .before .before .before .before .before .before in
+    let x = start .args .x in (
+      (λ st h. held-as (ap leaving (left-nothing st x _ (c .enum-told .given .1))) (h)),
+      (λ st h. c .before .before .before .before .put-none .ensures ∙ ap (closing (start .args .answer .now)) (left-nothing st x _ (c .enum-told .given .1))),
+    )
+
+enum-told-2 : tie.Need-enum-told-2
+enum-told-2 c = search needs
+
+weighing-at-requires : tie.Need-weighing-at-requires
+weighing-at-requires c κs = search needs
+
+zeroed-requires : tie.Need-zeroed-requires
+zeroed-requires c κs = search needs
+
+put-weighing-requires : tie.Need-put-weighing-requires
+put-weighing-requires c κs = search needs
+
+same-length-2 : tie.Need-same-length-2
+same-length-2 c = search needs
+
+same-length-3 : tie.Need-same-length-3
+same-length-3 c = search needs
+
+returns-2 : tie.Need-returns-2
+returns-2 c =
+    let start = c .before .before .before .before .before .before .before .before .before .before .before .before .before .before .before .before in
+    let x = start .args .x in (
+      (λ st h. held-as (ap leaving (left-zero st x _ (c .before .before .before .before .before .before .before .before .enum-told2 .given .1) _ (simp (toZ-ofZ (raw start)) at (c .before .before .before .zeroed .ensures) ∙ (λ i. zeroedOf (read-part (λ (t : State). t .weighing) (c .before .before .before .before .before .before .weighing-at .ensures) h i) (x .raw))))) (c .before .before .put-weighing .ensures st h)),
+      (λ st h. c .before .before .before .before .before .before .before .before .before .before .before .before .put-none .ensures ∙ ap (closing (start .args .answer .now)) (left-zero st x _ (c .before .before .before .before .before .before .before .before .enum-told2 .given .1) _ (simp (toZ-ofZ (raw start)) at (c .before .before .before .zeroed .ensures) ∙ (λ i. zeroedOf (read-part (λ (t : State). t .weighing) (c .before .before .before .before .before .before .weighing-at .ensures) h i) (x .raw))))),
+    )
+
+enum-told-3 : tie.Need-enum-told-3
+enum-told-3 c = search needs
+
+weighing-at-requires-2 : tie.Need-weighing-at-requires-2
+weighing-at-requires-2 c κs = search needs
+
+tared-requires : tie.Need-tared-requires
+tared-requires c κs = search needs
+
+put-weighing-requires-2 : tie.Need-put-weighing-requires-2
+put-weighing-requires-2 c κs = search needs
+
+same-length-4 : tie.Need-same-length-4
+same-length-4 c = search needs
+
+same-length-5 : tie.Need-same-length-5
+same-length-5 c = search needs
+
+returns-3 : tie.Need-returns-3
+returns-3 c =
+    let start = c .before .before .before .before .before .before .before .before .before .before .before .before .before .before .before .before in
+    let x = start .args .x in (
+      (λ st h. held-as (ap leaving (left-tare st x _ (c .before .before .before .before .before .before .before .before .enum-told3 .given .1) _ (simp (toZ-ofZ (gross start)) at (c .before .before .before .tared .ensures) ∙ (λ i. taredOf (read-part (λ (t : State). t .weighing) (c .before .before .before .before .before .before .weighing-at2 .ensures) h i) (x .gross))))) (c .before .before .put-weighing2 .ensures st h)),
+      (λ st h. c .before .before .before .before .before .before .before .before .before .before .before .before .put-none .ensures ∙ ap (closing (start .args .answer .now)) (left-tare st x _ (c .before .before .before .before .before .before .before .before .enum-told3 .given .1) _ (simp (toZ-ofZ (gross start)) at (c .before .before .before .tared .ensures) ∙ (λ i. taredOf (read-part (λ (t : State). t .weighing) (c .before .before .before .before .before .before .weighing-at2 .ensures) h i) (x .gross))))),
+    )
+
+enum-told-4 : tie.Need-enum-told-4
+enum-told-4 c = search needs
+
+weighing-at-requires-3 : tie.Need-weighing-at-requires-3
+weighing-at-requires-3 c κs = search needs
+
+tared-requires-2 : tie.Need-tared-requires-2
+tared-requires-2 c κs = search needs
+
+put-weighing-requires-3 : tie.Need-put-weighing-requires-3
+put-weighing-requires-3 c κs = search needs
+
+same-length-6 : tie.Need-same-length-6
+same-length-6 c = search needs
+
+same-length-7 : tie.Need-same-length-7
+same-length-7 c = search needs
+
+returns-4 : tie.Need-returns-4
+returns-4 c =
+    let start = c .before .before .before .before .before .before .before .before .before .before .before .before .before .before .before in
+    let x = start .args .x in (
+      (λ st h. held-as (ap leaving (left-tare-clear st x _ (c .before .before .before .before .before .before .before .enum-told4 .given .1) _ (c .before .before .before .tared2 .ensures ∙ (λ i. taredOf (read-part (λ (t : State). t .weighing) (c .before .before .before .before .before .weighing-at3 .ensures) h i) (pos 0))))) (c .before .before .put-weighing3 .ensures st h)),
+      (λ st h. c .before .before .before .before .before .before .before .before .before .before .before .put-none .ensures ∙ ap (closing (start .args .answer .now)) (left-tare-clear st x _ (c .before .before .before .before .before .before .before .enum-told4 .given .1) _ (c .before .before .before .tared2 .ensures ∙ (λ i. taredOf (read-part (λ (t : State). t .weighing) (c .before .before .before .before .before .weighing-at3 .ensures) h i) (pos 0))))),
+    )
+
+enum-told-5 : tie.Need-enum-told-5
+enum-told-5 c = search needs
+
+start-sequence-requires : tie.Need-start-sequence-requires
+start-sequence-requires c κs = search needs
+
+put-sequence-requires : tie.Need-put-sequence-requires
+put-sequence-requires c κs = search needs
+
+same-length-8 : tie.Need-same-length-8
+same-length-8 c = search needs
+
+same-length-9 : tie.Need-same-length-9
+same-length-9 c = search needs
+
+returns-5 : tie.Need-returns-5
+returns-5 c =
+    let start = c .before .before .before .before .before .before .before .before .before .before .before .before .before in
+    let x = start .args .x in (
+      (λ st h. held-as (ap leaving (left-start st x _ (c .before .before .before .before .before .enum-told5 .given .1) _ (c .before .before .before .start-sequence .ensures))) (c .before .before .put-sequence .ensures st h)),
+      (λ st h. c .before .before .before .before .before .before .before .before .before .put-none .ensures ∙ ap (closing (start .args .answer .now)) (left-start st x _ (c .before .before .before .before .before .enum-told5 .given .1) _ (c .before .before .before .start-sequence .ensures))),
+    )
+
+enum-told-6 : tie.Need-enum-told-6
+enum-told-6 c = search needs
+
+sequence-at-requires : tie.Need-sequence-at-requires
+sequence-at-requires c κs = search needs
+
+stop-sequence-requires : tie.Need-stop-sequence-requires
+stop-sequence-requires c κs = search needs
+
+put-sequence-requires-2 : tie.Need-put-sequence-requires-2
+put-sequence-requires-2 c κs = search needs
+
+same-length-10 : tie.Need-same-length-10
+same-length-10 c = search needs
+
+same-length-11 : tie.Need-same-length-11
+same-length-11 c = search needs
+
+returns-6 : tie.Need-returns-6
+returns-6 c =
+    let start = c .before .before .before .before .before .before .before .before .before .before .before .before .before .before .before in
+    let x = start .args .x in (
+      (λ st h. held-as (ap leaving (left-stop st x _ (c .before .before .before .before .before .before .before .enum-told6 .given .1) _ (c .before .before .before .stop-sequence .ensures ∙ (λ i. stopSequence (read-part (λ (t : State). t .sequence) (c .before .before .before .before .before .sequence-at .ensures) h i))))) (c .before .before .put-sequence2 .ensures st h)),
+      (λ st h. c .before .before .before .before .before .before .before .before .before .before .before .put-none .ensures ∙ ap (closing (start .args .answer .now)) (left-stop st x _ (c .before .before .before .before .before .before .before .enum-told6 .given .1) _ (c .before .before .before .stop-sequence .ensures ∙ (λ i. stopSequence (read-part (λ (t : State). t .sequence) (c .before .before .before .before .before .sequence-at .ensures) h i))))),
+    )
+
+enum-known-d : tie.Need-enum-known-d
+enum-known-d c = search needs
+
+put-setpoints-requires : tie.Need-put-setpoints-requires
+put-setpoints-requires c κs = search needs
+
+same-length-12 : tie.Need-same-length-12
+same-length-12 c = search needs
+
+same-length-13 : tie.Need-same-length-13
+same-length-13 c = search needs
+
+returns-7 : tie.Need-returns-7
+returns-7 c =
+    let start = c .before .before .before .before .before .before .before .before .before .before .before .before .before in
+    let x = start .args .x in (
+      (λ st h. held-as (ap leaving (left-set st x _ _ (c .before .before .before .before .before .d .given .1))) (c .before .before .put-setpoints .ensures st h)),
+      (λ st h. c .before .before .before .before .before .before .before .before .before .put-none .ensures ∙ ap (closing (start .args .answer .now)) (left-set st x _ _ (c .before .before .before .before .before .d .given .1))),
+    )
+
+enum-told-7 : tie.Need-enum-told-7
+enum-told-7 c = search needs
+
+clear-totals-requires : tie.Need-clear-totals-requires
+clear-totals-requires c κs = search needs
+
+put-totals-requires : tie.Need-put-totals-requires
+put-totals-requires c κs = search needs
+
+same-length-14 : tie.Need-same-length-14
+same-length-14 c = search needs
+
+same-length-15 : tie.Need-same-length-15
+same-length-15 c = search needs
+
+returns-8 : tie.Need-returns-8
+returns-8 c =
+    let start = c .before .before .before .before .before .before .before .before .before .before .before .before .before in
+    let x = start .args .x in (
+      (λ st h. held-as (ap leaving (left-total-clear st x _ (c .before .before .before .before .before .enum-told7 .given .1) _ (c .before .before .before .clear-totals .ensures))) (c .before .before .put-totals .ensures st h)),
+      (λ st h. c .before .before .before .before .before .before .before .before .before .put-none .ensures ∙ ap (closing (start .args .answer .now)) (left-total-clear st x _ (c .before .before .before .before .before .enum-told7 .given .1) _ (c .before .before .before .clear-totals .ensures))),
+    )
+
+enum-told-8 : tie.Need-enum-told-8
+enum-told-8 c = search needs
+
+totals-at-requires : tie.Need-totals-at-requires
+totals-at-requires c κs = search needs
+
+take-back-requires : tie.Need-take-back-requires
+take-back-requires c κs = search needs
+
+put-totals-requires-2 : tie.Need-put-totals-requires-2
+put-totals-requires-2 c κs = search needs
+
+same-length-16 : tie.Need-same-length-16
+same-length-16 c = search needs
+
+same-length-17 : tie.Need-same-length-17
+same-length-17 c = search needs
+
+returns-9 : tie.Need-returns-9
+returns-9 c =
+    let start = c .before .before .before .before .before .before .before .before .before .before .before .before .before .before .before in
+    let x = start .args .x in (
+      (λ st h. held-as (ap leaving (left-undo st x _ (c .before .before .before .before .before .before .before .enum-told8 .given .1) _ (c .before .before .before .take-back .ensures ∙ (λ i. takenBack (read-part (λ (t : State). t .totals) (c .before .before .before .before .before .totals-at .ensures) h i))))) (c .before .before .put-totals2 .ensures st h)),
+      (λ st h. c .before .before .before .before .before .before .before .before .before .before .before .put-none .ensures ∙ ap (closing (start .args .answer .now)) (left-undo st x _ (c .before .before .before .before .before .before .before .enum-told8 .given .1) _ (c .before .before .before .take-back .ensures ∙ (λ i. takenBack (read-part (λ (t : State). t .totals) (c .before .before .before .before .before .totals-at .ensures) h i))))),
+    )
+
+enum-told-9 : tie.Need-enum-told-9
+enum-told-9 c = search needs
+
+show-requires : tie.Need-show-requires
+show-requires c κs = search needs
+
+same-length-18 : tie.Need-same-length-18
+same-length-18 c = search needs
+
+same-length-19 : tie.Need-same-length-19
+same-length-19 c = search needs
+
+returns-10 : tie.Need-returns-10
+returns-10 c =
+    let start = c .before .before .before .before .before .before .before .before .before .before .before .before in
+    let x = start .args .x in (
+      (λ st h. held-as (ap leaving (left-gross st x _ (c .before .before .before .before .enum-told9 .given .1))) (c .before .before .show .ensures st h)),
+      (λ st h. c .before .before .before .before .before .before .before .before .put-none .ensures ∙ ap (closing (start .args .answer .now)) (left-gross st x _ (c .before .before .before .before .enum-told9 .given .1))),
+    )
+
+enum-told-10 : tie.Need-enum-told-10
+enum-told-10 c = search needs
+
+show-requires-2 : tie.Need-show-requires-2
+show-requires-2 c κs = search needs
+
+same-length-20 : tie.Need-same-length-20
+same-length-20 c = search needs
+
+same-length-21 : tie.Need-same-length-21
+same-length-21 c = search needs
+
+returns-11 : tie.Need-returns-11
+returns-11 c =
+    let start = c .before .before .before .before .before .before .before .before .before .before .before .before in
+    let x = start .args .x in (
+      (λ st h. held-as (ap leaving (left-net st x _ (c .before .before .before .before .enum-told10 .given .1))) (c .before .before .show2 .ensures st h)),
+      (λ st h. c .before .before .before .before .before .before .before .before .put-none .ensures ∙ ap (closing (start .args .answer .now)) (left-net st x _ (c .before .before .before .before .enum-told10 .given .1))),
+    )
+
+enum-told-11 : tie.Need-enum-told-11
+enum-told-11 c = search needs
+
+close-requires : tie.Need-close-requires
+close-requires c κs = search needs
+
+same-length-22 : tie.Need-same-length-22
+same-length-22 c = search needs
+
+same-length-23 : tie.Need-same-length-23
+same-length-23 c = search needs
+
+returns-12 : tie.Need-returns-12
+returns-12 c =
+    let start = c .before .before .before .before .before .before .before .before .before .before .before .before .before .before .before in
+    let x = start .args .x in (
+      (λ st h. held-as (ap leaving (left-close st x _ (c .before .before .before .before .before .before .before .enum-told11 .given .1) _ refl)) (c .before .before .before .before .close .ensures .0 st h)),
+      (λ st h. c .before .before .before .before .close .ensures .1 st h ∙ ap (closedPut (closed.Day (st .book))) (c .before .before .before .before .before .before .before .before .before .before .before .put-none .ensures) ∙ over-none closed.Nothing (closed.Day (st .book)) (start .args .answer .now) ∙ ap (closing (start .args .answer .now)) (left-close st x _ (c .before .before .before .before .before .before .before .enum-told11 .given .1) _ refl)),
+    )
+
+enum-told-12 : tie.Need-enum-told-12
+enum-told-12 c = search needs
+
+sequence-at-requires-2 : tie.Need-sequence-at-requires-2
+sequence-at-requires-2 c κs = search needs
+
+discharge-sequence-requires : tie.Need-discharge-sequence-requires
+discharge-sequence-requires c κs = search needs
+
+put-sequence-requires-3 : tie.Need-put-sequence-requires-3
+put-sequence-requires-3 c κs = search needs
+
+same-length-24 : tie.Need-same-length-24
+same-length-24 c = search needs
+
+same-length-25 : tie.Need-same-length-25
+same-length-25 c = search needs
+
+returns-13 : tie.Need-returns-13
+returns-13 c =
+    let start = c .before .before .before .before .before .before .before .before .before .before .before .before .before .before .before in
+    let x = start .args .x in (
+      (λ st h. held-as (ap leaving (left-discharge st x _ (c .before .before .before .before .before .before .before .enum-told12 .given .1) _ (c .before .before .before .discharge-sequence .ensures ∙ (λ i. dischargeSequence (read-part (λ (t : State). t .sequence) (c .before .before .before .before .before .sequence-at2 .ensures) h i))))) (c .before .before .put-sequence3 .ensures st h)),
+      (λ st h. c .before .before .before .before .before .before .before .before .before .before .before .put-none .ensures ∙ ap (closing (start .args .answer .now)) (left-discharge st x _ (c .before .before .before .before .before .before .before .enum-told12 .given .1) _ (c .before .before .before .discharge-sequence .ensures ∙ (λ i. dischargeSequence (read-part (λ (t : State). t .sequence) (c .before .before .before .before .before .sequence-at2 .ensures) h i))))),
+    )
+
+pub settle-spec : {M : Type 1} → statement M
+settle-spec =
+    tie.close
+    (tie.spec
+    put-none-requires
+    enum-told
+    same-length
+    returns
+    enum-told-2
+    weighing-at-requires
+    zeroed-requires
+    put-weighing-requires
+    same-length-2
+    same-length-3
+    returns-2
+    enum-told-3
+    weighing-at-requires-2
+    tared-requires
+    put-weighing-requires-2
+    same-length-4
+    same-length-5
+    returns-3
+    enum-told-4
+    weighing-at-requires-3
+    tared-requires-2
+    put-weighing-requires-3
+    same-length-6
+    same-length-7
+    returns-4
+    enum-told-5
+    start-sequence-requires
+    put-sequence-requires
+    same-length-8
+    same-length-9
+    returns-5
+    enum-told-6
+    sequence-at-requires
+    stop-sequence-requires
+    put-sequence-requires-2
+    same-length-10
+    same-length-11
+    returns-6
+    enum-known-d
+    put-setpoints-requires
+    same-length-12
+    same-length-13
+    returns-7
+    enum-told-7
+    clear-totals-requires
+    put-totals-requires
+    same-length-14
+    same-length-15
+    returns-8
+    enum-told-8
+    totals-at-requires
+    take-back-requires
+    put-totals-requires-2
+    same-length-16
+    same-length-17
+    returns-9
+    enum-told-9
+    show-requires
+    same-length-18
+    same-length-19
+    returns-10
+    enum-told-10
+    show-requires-2
+    same-length-20
+    same-length-21
+    returns-11
+    enum-told-11
+    close-requires
+    same-length-22
+    same-length-23
+    returns-12
+    enum-told-12
+    sequence-at-requires-2
+    discharge-sequence-requires
+    put-sequence-requires-3
+    same-length-24
+    same-length-25
+    returns-13)

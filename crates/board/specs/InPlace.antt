@@ -1,0 +1,79 @@
+-- What the steps of a tick in the buffer of its state hand on from one to the next: what the request that is done tells, and the weights; and the
+-- answer, which they put in two.
+use Prim.Native.Nat.{ℕ}
+use mathlib.Core.Bool.{Bool, true, false, cond}
+use mathlib.Core.List.{List, [], _∷_, _++_}
+use Rattle.places.specs.Places.{Place, row, putAll, flagTag}
+use Rattle.types.specs.declared.daybook.Closed.{Closed}
+use Rattle.types.specs.declared.machine.Answer.{Answer}
+use Rattle.outline.specs.Numbers.{stageNumber, analogNumber}
+use Rattle.board.specs.AnswerImage.{weightRows, weightNumbers, gateRows, gateNumbers, signalRows, signalNumbers, lengthByte, closedFlag, grossRows, grossNumbers, closedBook, dayRows, dayNumbers, valueRows, valueNumbers}
+use Rattle.types.specs.declared.weight.Raw.{Raw}
+use Rattle.types.specs.declared.weight.Raw.the-variants as raw
+use Rattle.types.specs.declared.weight.Weights.{Weights}
+use Rattle.types.specs.declared.requests.Request.{Request}
+use Rattle.types.specs.declared.requests.Request.the-variants as request
+
+-- the raw that was weighed
+unfoldable pub rawIn : Weights → Raw
+rawIn x = cond (x .good) (raw.Tenths (x .raw)) raw.Bad
+
+-- step 6 is passed over
+abbrev pub heldBy : Request → Bool
+heldBy request.Nothing = false
+heldBy request.Zero = false
+heldBy request.Tare = false
+heldBy request.TareClear = false
+heldBy request.Start = true
+heldBy request.Stop = true
+heldBy (request.Set p) = false
+heldBy request.TotalClear = false
+heldBy request.Undo = false
+heldBy request.ShowGross = false
+heldBy request.ShowNet = false
+heldBy request.DayClose = false
+heldBy request.Discharge = true
+
+-- a zero was keyed
+abbrev pub keyedBy : Request → Bool
+keyedBy request.Nothing = false
+keyedBy request.Zero = true
+keyedBy request.Tare = false
+keyedBy request.TareClear = false
+keyedBy request.Start = false
+keyedBy request.Stop = false
+keyedBy (request.Set p) = false
+keyedBy request.TotalClear = false
+keyedBy request.Undo = false
+keyedBy request.ShowGross = false
+keyedBy request.ShowNet = false
+keyedBy request.DayClose = false
+keyedBy request.Discharge = false
+
+-- ---- the answer in two: the closed day, put where step 4 closes it, and all the rest, put at the end
+abbrev pub closedRows : List Place
+closedRows = row 14 1 ∷ dayRows
+
+abbrev pub closedNumbers : Closed → List ℕ
+closedNumbers c = flagTag (closedFlag c) ∷ dayNumbers (closedBook c)
+
+unfoldable pub closedPut : Closed → List ℕ → List ℕ
+closedPut c buffer = putAll closedRows (closedNumbers c) buffer
+
+-- beside the closed day: the analog value's kind and the reply's length
+abbrev pub besideRows : List Place
+besideRows = row 13 1 ∷ row 15 1 ∷ []
+
+abbrev pub besideNumbers : ℕ → Answer → List ℕ
+besideNumbers length a = analogNumber (a .analog) ∷ lengthByte length ∷ []
+
+abbrev pub outputRows : List Place
+outputRows = weightRows ++ gateRows ++ signalRows ++ besideRows ++ grossRows ++ valueRows
+
+abbrev pub outputNumbers : ℕ → ℕ → Answer → List ℕ
+outputNumbers n length a =
+    weightNumbers n (a .reading) ++ gateNumbers (stageNumber (a .stage)) (a .gates) ++ signalNumbers a ++ besideNumbers length a
+    ++ grossNumbers (a .reading) ++ valueNumbers a
+
+unfoldable pub outputsPut : ℕ → ℕ → Answer → List ℕ → List ℕ
+outputsPut n length a buffer = putAll outputRows (outputNumbers n length a) buffer

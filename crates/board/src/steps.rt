@@ -1,0 +1,306 @@
+// A tick in the buffer of its state, in the outline's six steps. Each reads the parts of the state that it asks for from their places and writes
+// those that it makes, so that there is a state nowhere else: a tick takes little of a board's stack. A tick and a line both call each of them, so
+// that the compiler draws none into its caller: each gives its frame back before the next begins (docs/COST.md). What each promises is of the
+// state that the buffer holds.
+ghost use mathlib.Core.Path.{_≡_};
+ghost use Rattle.types.specs.declared.machine.State.{State};
+ghost use Rattle.outline.specs.Weight.{rawOf};
+ghost use Rattle.outline.specs.DayBook.{closedOf};
+ghost use Rattle.outline.specs.Parts.{withBook, withDisplay, withWeighing, pickState};
+ghost use Rattle.outline.specs.Zero.{trackedOf};
+ghost use Rattle.outline.specs.Requests.{idleNow, rulingOf, grantedOf};
+ghost use Rattle.outline.specs.Steps.{answeredOf};
+ghost use Rattle.outline.specs.Tick.{enteredOf, weightsOf, steppedOf, readingOf, outputsOf};
+ghost use Rattle.outline.specs.Replies.{replyText, replyDue, writtenOf};
+ghost use Rattle.replies.specs.Wrote.{wroteOf};
+ghost use Rattle.images.specs.Holds.{Turns, Tells};
+ghost use Rattle.board.specs.InPlace.{rawIn, heldBy, keyedBy, closedPut, outputsPut};
+use crate::answer::put_day;
+use crate::answer::put_none;
+use crate::answer::put_outputs;
+use images::parts::book_at;
+use images::parts::panel_at;
+use images::parts::put_book;
+use images::parts::put_panel;
+use images::parts::put_sequence;
+use images::parts::put_setpoints;
+use images::parts::put_stability;
+use images::parts::put_totals;
+use images::parts::put_weighing;
+use images::parts::sequence_at;
+use images::parts::setpoints_at;
+use images::parts::stability_at;
+use images::parts::totals_at;
+use images::parts::weighing_at;
+use replies::Wrote;
+use types::daybook::Closed;
+use types::lines::Command;
+use types::machine::State;
+use types::requests::Outcome;
+use types::requests::Request;
+use types::settings::Settings;
+use types::weight::Display;
+use types::weight::Panel;
+use types::weight::Raw;
+use types::weight::Stability;
+use types::weight::Weighing;
+use types::weight::Weights;
+
+// 1. to 3.: count to raw, day book, weights. The stability's change of raw is from the last good raw as it was before this tick.
+pub(crate) fn enter(s: Settings, count: i32, contact: bool, state: &mut [u8]) -> Weights
+    ensures state { λ _. ⌜ Turns (now (state .entry)) (now (state .exit)) (λ (st : State). enteredOf s st (rawOf (s .calibration) count) contact) ⌝ }
+    ensures weights { λ r. ⌜ Tells (now (state .entry)) (λ (st : State). r ≡ weightsOf s (enteredOf s st (rawOf (s .calibration) count) contact) (rawOf (s .calibration) count) contact) ⌝ }
+{
+    let raw = weight::raw::raw_of(s.calibration, count);
+    let book = book_at(state);
+    let stability = stability_at(state);
+    let weighing = weighing_at(state);
+    let steadied = weight::stability::steadied(s.steadiness, stability, book.last, raw);
+    put_book(state, daybook::book_tick(book, raw, contact));
+    put_stability(state, steadied);
+    weight::weigh(s, steadied, weighing, raw, contact)
+}
+
+// The raw that was weighed.
+fn raw_again(x: Weights) -> Raw
+    ensures { λ r. ⌜ r ≡ rawIn x ⌝ }
+{
+    if x.good {
+        return Raw::Tenths(x.raw);
+    }
+    Raw::Bad
+}
+
+// After 4., the weights x again, with the zero and the tare that stand in the buffer now.
+pub(crate) fn again(s: Settings, x: Weights, state: &[u8]) -> Weights
+    ensures { λ r. ⌜ Tells (now (state .entry)) (λ (st : State). r ≡ weightsOf s st (rawIn x) (x .contact)) ⌝ }
+{
+    let stability = stability_at(state);
+    let weighing = weighing_at(state);
+    weight::weigh(s, stability, weighing, raw_again(x), x.contact)
+}
+
+// 4. How the request is settled.
+pub(crate) fn ruled(s: Settings, x: Weights, request: Request, state: &[u8]) -> Outcome
+    ensures { λ r. ⌜ Tells (now (state .entry)) (λ (st : State). r ≡ rulingOf s st x request) ⌝ }
+{
+    let batching = s.batching;
+    let mode = batching.mode;
+    let sequence = sequence_at(state);
+    let totals = totals_at(state);
+    requests::ruling(s.range, mode, sequence, totals, x, request)
+}
+
+// The day goes into the answer as it was; the next one begins.
+fn close(state: &mut [u8], answer: &mut [u8])
+    ensures state { λ _. ⌜ Turns (now (state .entry)) (now (state .exit)) (λ (st : State). withBook st (closedOf (st .book))) ⌝ }
+    ensures day { λ _. ⌜ Tells (now (state .entry)) (λ (st : State). now (answer .exit) ≡ closedPut (Closed.Day (st .book)) (now (answer .entry))) ⌝ }
+{
+    let day = book_at(state);
+    put_day(answer, day);
+    put_book(state, daybook::closed_book(day));
+}
+
+fn show(display: Display, state: &mut [u8])
+    ensures { λ _. ⌜ Turns (now (state .entry)) (now (state .exit)) (λ (st : State). withDisplay st display) ⌝ }
+{
+    let panel = Panel { display };
+    put_panel(state, panel);
+}
+
+// The reply that is due to a line, into its buffer: a read shows the state as it stands before step 4, which a read leaves.
+pub(crate) fn reply(
+    s: Settings,
+    command: Command,
+    outcome: Outcome,
+    x: Weights,
+    state: &[u8],
+    reply: &mut [u8],
+) -> Wrote
+    ensures wrote { λ r. ⌜ Tells (now (state .entry)) (λ (st : State). r ≡ wroteOf (replyText (s .address) (replyDue command st (readingOf x) outcome)) (now (reply .entry))) ⌝ }
+    ensures bytes { λ _. ⌜ Tells (now (state .entry)) (λ (st : State). now (reply .exit) ≡ writtenOf (replyText (s .address) (replyDue command st (readingOf x) outcome)) (now (reply .entry))) ⌝ }
+{
+    let panel = panel_at(state);
+    let setpoints = setpoints_at(state);
+    let totals = totals_at(state);
+    let shown = State {
+        book: daybook::open_book(),
+        stability: Stability {
+            good: false,
+            run: 0,
+        },
+        weighing: Weighing {
+            zero: 0,
+            tracked: 0,
+            tare: 0,
+            counter: 0,
+        },
+        panel,
+        setpoints,
+        sequence: batch::sequence::open_sequence(),
+        totals,
+    };
+    let reading = controller::outputs::reading(x);
+    let due = replies::due::reply_due(command, shown, reading, outcome);
+    replies::write_reply(reply, s.address, due)
+}
+
+// 4. What is done of the request, d: it changes one part of the state. A day that it closes goes into the answer.
+pub(crate) fn settle(d: Request, x: Weights, state: &mut [u8], answer: &mut [u8])
+    ensures state { λ _. ⌜ Turns (now (state .entry)) (now (state .exit)) (λ (st : State). grantedOf st x d .state) ⌝ }
+    ensures day { λ _. ⌜ Tells (now (state .entry)) (λ (st : State). now (answer .exit) ≡ closedPut (grantedOf st x d .closed) (now (answer .entry))) ⌝ }
+{
+    put_none(answer);
+    match d {
+        Request::Nothing => return,
+        Request::Zero => {
+            let w = weighing_at(state);
+            put_weighing(state, zero::zeroed(w, x.raw));
+            return;
+        }
+        Request::Tare => {
+            let w = weighing_at(state);
+            put_weighing(state, zero::tared(w, x.gross));
+            return;
+        }
+        Request::TareClear => {
+            let w = weighing_at(state);
+            put_weighing(state, zero::tared(w, 0));
+            return;
+        }
+        Request::Start => {
+            put_sequence(state, batch::sequence::start_sequence());
+            return;
+        }
+        Request::Stop => {
+            let q = sequence_at(state);
+            put_sequence(state, batch::sequence::stop_sequence(q));
+            return;
+        }
+        Request::Set(p) => {
+            put_setpoints(state, p);
+            return;
+        }
+        Request::TotalClear => {
+            put_totals(state, totals::clear_totals());
+            return;
+        }
+        Request::Undo => {
+            let t = totals_at(state);
+            put_totals(state, totals::take_back(t));
+            return;
+        }
+        Request::ShowGross => {
+            show(Display::Gross, state);
+            return;
+        }
+        Request::ShowNet => {
+            show(Display::Net, state);
+            return;
+        }
+        Request::DayClose => return close(state, answer),
+        Request::Discharge => {
+            let q = sequence_at(state);
+            put_sequence(state, batch::sequence::discharge_sequence(q));
+            return;
+        }
+    }
+}
+
+// Step 6 is passed over where a start, a stop or a discharge was done.
+pub(crate) fn is_held(d: Request) -> bool
+    ensures { λ r. ⌜ r ≡ heldBy d ⌝ }
+{
+    match d {
+        Request::Start => true,
+        Request::Stop => true,
+        Request::Discharge => true,
+        _ => false,
+    }
+}
+
+// Tracking begins anew where a zero was keyed.
+pub(crate) fn is_keyed(d: Request) -> bool
+    ensures { λ r. ⌜ r ≡ keyedBy d ⌝ }
+{
+    match d {
+        Request::Zero => true,
+        _ => false,
+    }
+}
+
+// 5. Tracking. The stage is that which step 4 leaves.
+pub(crate) fn track(s: Settings, keyed: bool, x: Weights, state: &mut [u8])
+    ensures { λ _. ⌜ Turns (now (state .entry)) (now (state .exit)) (λ (st : State). withWeighing st (trackedOf s (idleNow st) keyed x (st .weighing))) ⌝ }
+{
+    let sequence = sequence_at(state);
+    let stage = sequence.stage;
+    let idle = batch::sequence::is_idle(stage);
+    let weighing = weighing_at(state);
+    put_weighing(state, zero::tracking::tracked(s, idle, keyed, x, weighing));
+}
+
+// 6. Sequence, passed over where step 4 says so. In stage 00 it has nothing to do.
+pub(crate) fn step(s: Settings, held: bool, x: Weights, state: &mut [u8])
+    ensures { λ _. ⌜ Turns (now (state .entry)) (now (state .exit)) (λ (st : State). pickState held st (steppedOf s st x)) ⌝ }
+{
+    if held {
+        return;
+    }
+    let sequence = sequence_at(state);
+    let stage = sequence.stage;
+    if batch::sequence::is_idle(stage) {
+        return;
+    }
+    let batching = s.batching;
+    let mode = batching.mode;
+    let v = batch::comparison::compared(mode, x);
+    let fit = weight::is_fit(x);
+    let setpoints = setpoints_at(state);
+    let a = batch::advance(s.batching, setpoints, sequence, !fit, v, x.stable, x.gross);
+    let after = a.sequence;
+    if !a.finished {
+        put_sequence(state, after);
+        return;
+    }
+    let t = totals_at(state);
+    let booked = totals::booked_sequence(t, v, after);
+    put_sequence(state, booked);
+    put_totals(state, totals::booked_totals(t, v));
+}
+
+// Every output, of the state after step 6: of it they ask for the panel, the setpoints and the sequence. A closed day stands in the answer already.
+pub(crate) fn answer(
+    s: Settings,
+    outcome: Outcome,
+    told: u8,
+    length: usize,
+    x: Weights,
+    state: &[u8],
+    answer: &mut [u8],
+)
+    ensures { λ _. ⌜ Tells (now (state .entry)) (λ (st : State). now (answer .exit) ≡ outputsPut told length (outputsOf s (answeredOf outcome Closed.Nothing st) x st) (now (answer .entry))) ⌝ }
+{
+    let panel = panel_at(state);
+    let setpoints = setpoints_at(state);
+    let sequence = sequence_at(state);
+    let shown = State {
+        book: daybook::open_book(),
+        stability: Stability {
+            good: false,
+            run: 0,
+        },
+        weighing: Weighing {
+            zero: 0,
+            tracked: 0,
+            tare: 0,
+            counter: 0,
+        },
+        panel,
+        setpoints,
+        sequence,
+        totals: totals::clear_totals(),
+    };
+    let a = controller::outputs::outputs(s, outcome, Closed::Nothing, x, shown);
+    put_outputs(answer, told, length, a);
+}
