@@ -150,7 +150,7 @@ module _ (l t : List ℕ) where
       let e = by-none (givenIn l .refusal) (lengthRefusal (length t)) (givenBy l) s w o in
       (sym e, rw e (ap (λ (k : ℕ). replicate k 0) (length-passes (length t) (state-passes (givenIn l .refusal) (lengthRefusal (length t)) (givenBy l) w)) ∙ sym (open-holds .image)))
 
--- ---- a state's image is judged by its bytes first, then by what is possible: s is the second, p the test of what is possible, k that of the length
+-- ---- a state's image is judged by its bytes first, then by what is possible; k: the length is right, s: the bytes are the state's, p: it is possible
 module _ (a : ℕ) where
   abbrev byBytes : Bool → Bool → ℕ
   byBytes k s = cond k (cond s 0 21) 20

@@ -1,4 +1,4 @@
--- What is left of the requests after those that are named, and the weights' raw. Assumes nothing.
+-- What the requests that a match does not name have in common. Assumes nothing.
 use mathlib.Core.Path.{_≡_, refl}
 use mathlib.Core.Bool.{false}
 use mathlib.Core.List.{List, [], _∷_}

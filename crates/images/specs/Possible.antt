@@ -121,7 +121,7 @@ abbrev pub togetherPossible : Settings → State → Bool
 togetherPossible s st =
     togetherFits (s .batching .mode) (st .setpoints) (stageNumber (st .sequence .stage)) (st .stability .good) (st .book .begun) (st .weighing .counter)
 
--- the parts that no sum or total is in, each and together
+-- what is left to ask after the day book, the totals, and zero and tare: the other parts, and how all go together
 unfoldable pub restPossible : Settings → Stability → Setpoints → Sequence → Bool → ℕ → Bool
 restPossible s q p x begun counter =
     stabilityPossible (s .steadiness) q

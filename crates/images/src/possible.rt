@@ -296,7 +296,7 @@ fn given_mode(g: &[u8]) -> Mode
     mode_of(places::i32_at(g, MODE))
 }
 
-// The parts that no sum or total is in, each and together.
+// What is left to ask after the day book, the totals, and zero and tare: the other parts, and how all go together.
 fn is_rest(g: &[u8], q: Stability, p: Setpoints, x: Sequence, begun: bool, counter: u16) -> bool
     ensures { λ r. ⌜ r ≡ restPossible (settingsOf (givenAt (now (g .entry)))) q p x begun counter ⌝ }
 {
