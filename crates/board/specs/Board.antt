@@ -11,6 +11,7 @@ use Rattle.types.specs.declared.requests.Request.{Request}
 use Rattle.types.specs.declared.machine.State.{State}
 use Rattle.types.specs.declared.machine.Input.{Input}
 use Rattle.types.specs.declared.machine.Blocked.{Blocked}
+use Rattle.types.specs.declared.machine.Answer.{Answer}
 use Rattle.types.specs.declared.machine.Ticked.{Ticked}
 use Rattle.types.specs.declared.lines.LineTick.{LineTick}
 use Rattle.outline.specs.Settings.{settingsOf, openOf}
@@ -58,9 +59,21 @@ openAnswer l n = callRefusal (givenIn l .refusal) (lengthRefusal n) (givenBy l)
 unfoldable pub openImage : List ℕ → List ℕ → List ℕ
 openImage l t = unless (openAnswer l (length t)) (imageOf openState) t
 
--- ---- tick: an answer buffer that is too short is 14, tested after 20, 21 and 10, and nothing is done
+-- ---- tick and line: an answer buffer that is too short is 14, tested after 20, 21 and 10, and nothing is done
 abbrev pub ifRoom : {A : Type 0} → List ℕ → A → A → A
 ifRoom answer done kept = cond (leb answerLength (length answer)) done kept
+
+-- what is answered, the image that is left and the answer's bytes, where n is told of a tick that leaves st
+abbrev pub roomAnswer : ℕ → List ℕ → ℕ
+roomAnswer n answer = ifRoom answer n 14
+
+abbrev pub roomImage : State → List ℕ → List ℕ → List ℕ
+roomImage st t answer = ifRoom answer (imageOf st) t
+
+abbrev pub roomBuffer : ℕ → ℕ → Answer → List ℕ → List ℕ
+roomBuffer n length a answer = ifRoom answer (answerBuffer n length a answer) answer
+
+-- ---- tick
 
 abbrev pub inputOf : ℤ → Bool → Request → Input
 inputOf count contact request = record { count = count; contact = contact; request = request }
@@ -77,15 +90,15 @@ toldOf known a = cond known (outcomeNumber (a .answer .outcome)) 13
 
 unfoldable pub tickAnswer : List ℕ → List ℕ → ℤ → Bool → ℕ → List ℕ → List ℕ → ℕ
 tickAnswer l t count contact n points answer =
-    unless (refusalBy l t) (ifRoom answer (toldOf (isRequest n points) (tickBy l t count contact n points)) 14) (refusalBy l t)
+    unless (refusalBy l t) (roomAnswer (toldOf (isRequest n points) (tickBy l t count contact n points)) answer) (refusalBy l t)
 
 unfoldable pub tickImage : List ℕ → List ℕ → ℤ → Bool → ℕ → List ℕ → List ℕ → List ℕ
-tickImage l t count contact n points answer = unless (refusalBy l t) (ifRoom answer (imageOf (tickBy l t count contact n points .state)) t) t
+tickImage l t count contact n points answer = unless (refusalBy l t) (roomImage (tickBy l t count contact n points .state) t answer) t
 
 unfoldable pub tickBuffer : List ℕ → List ℕ → ℤ → Bool → ℕ → List ℕ → List ℕ → List ℕ
 tickBuffer l t count contact n points answer =
     let a = tickBy l t count contact n points in
-    unless (refusalBy l t) (ifRoom answer (answerBuffer (toldOf (isRequest n points) a) 0 (a .answer) answer) answer) answer
+    unless (refusalBy l t) (roomBuffer (toldOf (isRequest n points) a) 0 (a .answer) answer) answer
 
 -- ---- line: the number told and the reply's length
 unfoldable pub lineBy : List ℕ → List ℕ → ℤ → Bool → List ℕ → List ℕ → LineTick
@@ -93,11 +106,11 @@ lineBy l t count contact receive reply = lineTickOf (settingsBy l) (stateBy l t)
 
 unfoldable pub lineAnswer : List ℕ → List ℕ → ℤ → Bool → List ℕ → List ℕ → List ℕ → ℕ
 lineAnswer l t count contact receive reply answer =
-    unless (refusalBy l t) (ifRoom answer (toldNumber (lineBy l t count contact receive reply .told)) 14) (refusalBy l t)
+    unless (refusalBy l t) (roomAnswer (toldNumber (lineBy l t count contact receive reply .told)) answer) (refusalBy l t)
 
 unfoldable pub lineImage : List ℕ → List ℕ → ℤ → Bool → List ℕ → List ℕ → List ℕ → List ℕ
 lineImage l t count contact receive reply answer =
-    unless (refusalBy l t) (ifRoom answer (imageOf (lineBy l t count contact receive reply .state)) t) t
+    unless (refusalBy l t) (roomImage (lineBy l t count contact receive reply .state) t answer) t
 
 unfoldable pub lineReply : List ℕ → List ℕ → ℤ → Bool → List ℕ → List ℕ → List ℕ → List ℕ
 lineReply l t count contact receive reply answer =
@@ -106,7 +119,7 @@ lineReply l t count contact receive reply answer =
 unfoldable pub lineBuffer : List ℕ → List ℕ → ℤ → Bool → List ℕ → List ℕ → List ℕ → List ℕ
 lineBuffer l t count contact receive reply answer =
     let a = lineBy l t count contact receive reply in
-    unless (refusalBy l t) (ifRoom answer (answerBuffer (toldNumber (a .told)) (a .length) (a .answer) answer) answer) answer
+    unless (refusalBy l t) (roomBuffer (toldNumber (a .told)) (a .length) (a .answer) answer) answer
 
 -- ---- block: 15 after 20, 21 and 10
 unfoldable pub blockBy : List ℕ → List ℕ → List ℤ → Bool → Blocked

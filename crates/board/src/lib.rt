@@ -12,9 +12,11 @@ ghost use Rattle.types.specs.declared.machine.State.{State};
 ghost use Rattle.images.specs.StateImage.{imageOf};
 ghost use Rattle.images.specs.Images.{bytesRefusal};
 ghost use Rattle.images.specs.Holds.{Tells};
-ghost use Rattle.board.specs.AnswerImage.{answerBuffer};
 ghost use Rattle.board.specs.Owed.{CallsAreTicks, OpensARun, CallsAreRuns, LengthTold};
-ghost use Rattle.board.specs.Board.{imagesRefusal, givenBy, lengthRefusal, openAnswer, openImage, ifRoom, inputOf, toldOf, tickAnswer, tickImage, tickBuffer, lineAnswer, lineImage, lineReply, lineBuffer, blockAnswer, blockImage};
+ghost use Rattle.board.specs.Board.{imagesRefusal, givenBy, lengthRefusal, openAnswer, openImage};
+ghost use Rattle.board.specs.Board.{ifRoom, roomAnswer, roomImage, roomBuffer, inputOf, toldOf};
+ghost use Rattle.board.specs.Board.{tickAnswer, tickImage, tickBuffer, lineAnswer, lineImage, lineReply, lineBuffer};
+ghost use Rattle.board.specs.Board.{blockAnswer, blockImage};
 use answer::put_none;
 use asked::is_request;
 use asked::request_by;
@@ -124,9 +126,18 @@ fn run_tick(
     state: &mut [u8],
     answer: &mut [u8],
 ) -> u32
-    ensures told { λ r. ⌜ Tells (now (state .entry)) (λ (st : State). r ≡ ifRoom (now (answer .entry)) (toldOf known (tickOf s st (inputOf count contact request))) 14) ⌝ }
-    ensures image { λ _. ⌜ Tells (now (state .entry)) (λ (st : State). now (state .exit) ≡ ifRoom (now (answer .entry)) (imageOf (tickOf s st (inputOf count contact request) .state)) (now (state .entry))) ⌝ }
-    ensures outputs { λ _. ⌜ Tells (now (state .entry)) (λ (st : State). now (answer .exit) ≡ ifRoom (now (answer .entry)) (answerBuffer (toldOf known (tickOf s st (inputOf count contact request))) 0 (tickOf s st (inputOf count contact request) .answer) (now (answer .entry))) (now (answer .entry))) ⌝ }
+    ensures told { λ r.
+        ⌜ Tells (now (state .entry)) (λ (st : State).
+        let a = tickOf s st (inputOf count contact request) in
+        r ≡ roomAnswer (toldOf known a) (now (answer .entry))) ⌝ }
+    ensures image { λ _.
+        ⌜ Tells (now (state .entry)) (λ (st : State).
+        let a = tickOf s st (inputOf count contact request) in
+        now (state .exit) ≡ roomImage (a .state) (now (state .entry)) (now (answer .entry))) ⌝ }
+    ensures outputs { λ _.
+        ⌜ Tells (now (state .entry)) (λ (st : State).
+        let a = tickOf s st (inputOf count contact request) in
+        now (answer .exit) ≡ roomBuffer (toldOf known a) 0 (a .answer) (now (answer .entry))) ⌝ }
 {
     if answer.len() < ANSWER_LENGTH {
         return 14;
@@ -190,10 +201,22 @@ fn run_line(
     state: &mut [u8],
     answer: &mut [u8],
 ) -> u32
-    ensures told { λ r. ⌜ Tells (now (state .entry)) (λ (st : State). r ≡ ifRoom (now (answer .entry)) (toldNumber (lineTickOf s st count contact (now (receive .entry)) (now (reply .entry)) .told)) 14) ⌝ }
-    ensures image { λ _. ⌜ Tells (now (state .entry)) (λ (st : State). now (state .exit) ≡ ifRoom (now (answer .entry)) (imageOf (lineTickOf s st count contact (now (receive .entry)) (now (reply .entry)) .state)) (now (state .entry))) ⌝ }
-    ensures replied { λ _. ⌜ Tells (now (state .entry)) (λ (st : State). now (reply .exit) ≡ ifRoom (now (answer .entry)) (replyBuffer s st count contact (now (receive .entry)) (now (reply .entry))) (now (reply .entry))) ⌝ }
-    ensures outputs { λ _. ⌜ Tells (now (state .entry)) (λ (st : State). now (answer .exit) ≡ ifRoom (now (answer .entry)) (answerBuffer (toldNumber (lineTickOf s st count contact (now (receive .entry)) (now (reply .entry)) .told)) (lineTickOf s st count contact (now (receive .entry)) (now (reply .entry)) .length) (lineTickOf s st count contact (now (receive .entry)) (now (reply .entry)) .answer) (now (answer .entry))) (now (answer .entry))) ⌝ }
+    ensures told { λ r.
+        ⌜ Tells (now (state .entry)) (λ (st : State).
+        let a = lineTickOf s st count contact (now (receive .entry)) (now (reply .entry)) in
+        r ≡ roomAnswer (toldNumber (a .told)) (now (answer .entry))) ⌝ }
+    ensures image { λ _.
+        ⌜ Tells (now (state .entry)) (λ (st : State).
+        let a = lineTickOf s st count contact (now (receive .entry)) (now (reply .entry)) in
+        now (state .exit) ≡ roomImage (a .state) (now (state .entry)) (now (answer .entry))) ⌝ }
+    ensures replied { λ _.
+        ⌜ Tells (now (state .entry)) (λ (st : State).
+        let text = replyBuffer s st count contact (now (receive .entry)) (now (reply .entry)) in
+        now (reply .exit) ≡ ifRoom (now (answer .entry)) text (now (reply .entry))) ⌝ }
+    ensures outputs { λ _.
+        ⌜ Tells (now (state .entry)) (λ (st : State).
+        let a = lineTickOf s st count contact (now (receive .entry)) (now (reply .entry)) in
+        now (answer .exit) ≡ roomBuffer (toldNumber (a .told)) (a .length) (a .answer) (now (answer .entry))) ⌝ }
 {
     if answer.len() < ANSWER_LENGTH {
         return 14;
