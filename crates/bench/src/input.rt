@@ -6,8 +6,8 @@
 //     27 to 33   the setpoints, in the order of the command SS
 //     34         the count of the ticks before the first round
 //
-// Then 16 lines of 64 bytes, each a serial command with its CR LF and zeros behind it, and up to three blocks of 4,096 counts. A number that
-// the input is too short for is 0.
+// Then 16 lines of 64 bytes, each a serial command with its CR LF and zeros behind it, and up to three blocks of 4,096 counts. A number
+// that the input is too short for is 0.
 ghost use Prim.Native.Nat.{_<_};
 use types::settings::Given;
 use types::stages::Setpoints;

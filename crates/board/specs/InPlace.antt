@@ -1,5 +1,5 @@
--- What the steps of a tick in the buffer of its state hand on from one to the next: what the request that is done tells, and the weights; and the
--- answer, which they put in two.
+-- What the steps of a tick in the buffer of its state hand on from one to the next: what the request that is done tells, and the weights;
+-- and the answer, which they put in two.
 use Prim.Native.Nat.{ℕ}
 use mathlib.Core.Bool.{Bool, true, false, cond}
 use mathlib.Core.List.{List, [], _∷_, _++_}
@@ -7,7 +7,8 @@ use Rattle.places.specs.Places.{Place, row, putAll, flagTag}
 use Rattle.types.specs.declared.daybook.Closed.{Closed}
 use Rattle.types.specs.declared.machine.Answer.{Answer}
 use Rattle.outline.specs.Numbers.{stageNumber, analogNumber}
-use Rattle.board.specs.AnswerImage.{weightRows, weightNumbers, gateRows, gateNumbers, signalRows, signalNumbers, lengthByte, closedFlag, grossRows, grossNumbers, closedBook, dayRows, dayNumbers, valueRows, valueNumbers}
+use Rattle.board.specs.AnswerImage.{weightRows, weightNumbers, gateRows, gateNumbers, signalRows, signalNumbers, lengthByte}
+use Rattle.board.specs.AnswerImage.{closedFlag, grossRows, grossNumbers, closedBook, dayRows, dayNumbers, valueRows, valueNumbers}
 use Rattle.types.specs.declared.weight.Raw.{Raw}
 use Rattle.types.specs.declared.weight.Raw.the-variants as raw
 use Rattle.types.specs.declared.weight.Weights.{Weights}

@@ -1,5 +1,5 @@
--- Demand 3 for images: "its history is that which led to the image". Statements on any calls, proved in proofs/; `every_call` has them as its
--- `ensures`.
+-- Demand 3 for images: "its history is that which led to the image". Statements on any calls, proved in proofs/; `every_call` has them as
+-- its `ensures`.
 use Prim.Native.Nat.{ℕ}
 use mathlib.Core.Path.{_≡_}
 use mathlib.Core.Bool.{Bool, cond}
@@ -22,8 +22,8 @@ use Rattle.images.specs.GivenImage.{givenImage}
 use Rattle.board.specs.AnswerImage.{lengthByte}
 use Rattle.board.specs.Board.{settingsBy, stateBy, refusalBy, openImage, ifRoom, inputBy, tickImage, lineImage, blockImage}
 
--- a call: a tick has its count, contact, request, points and answer buffer; a line its count, contact, receive, reply and answer buffer; a block its
--- counts and contact
+-- a call: a tick has its count, contact, request, points and answer buffer; a line its count, contact, receive, reply and answer buffer;
+-- a block its counts and contact
 pub data Call : Type 0 where
   tick : ℤ → Bool → ℕ → List ℕ → List ℕ → Call
   line : ℤ → Bool → List ℕ → List ℕ → List ℕ → Call
@@ -54,7 +54,8 @@ unfoldable pub historyOf : Settings → History Input → List Call → History 
 historyOf s h [] = h
 historyOf s h (c ∷ cs) = historyOf s (thenAll h (ticksOf s (runOf s h) c)) cs
 
--- ---- from every image that is not refused, whoever wrote it: calls leave the image of the state after their ticks, which is not refused either
+-- ---- from every image that is not refused, whoever wrote it: calls leave the image of the state after their ticks, which is not refused
+-- either
 pub record Called (l t : List ℕ) (cs : List Call) : Type 0 where
   pub image : imageRun l t cs ≡ imageOf (stateRun (settingsBy l) (stateBy l t) cs)
   pub passes : refusalBy l (imageRun l t cs) ≡ 0

@@ -1,5 +1,6 @@
-// The calls of board/pressgully.h. Between them nothing is kept: the state lies in the caller's 256 bytes, the settings in the caller's 128.
-// Each call judges both images by their bytes and runs its ticks in the buffer of the state; a refused one changes no byte of any buffer.
+// The calls of board/pressgully.h. Between them nothing is kept: the state lies in the caller's 256 bytes, the settings in the caller's
+// 128. Each call judges both images by their bytes and runs its ticks in the buffer of the state; a refused one changes no byte of any
+// buffer.
 ghost use mathlib.Core.Path.{_≡_};
 ghost use mathlib.Core.Bool.{cond};
 ghost use lib.ListN.{length};
@@ -169,9 +170,14 @@ pub extern "C" fn pressgully_tick(
     points: &[u32],
     answer: &mut [u8],
 ) -> u32
-    ensures told { λ r. ⌜ r ≡ tickAnswer (now (settings .entry)) (now (state .entry)) count contact request (now (points .entry)) (now (answer .entry)) ⌝ }
-    ensures image { λ _. ⌜ now (state .exit) ≡ tickImage (now (settings .entry)) (now (state .entry)) count contact request (now (points .entry)) (now (answer .entry)) ⌝ }
-    ensures outputs { λ _. ⌜ now (answer .exit) ≡ tickBuffer (now (settings .entry)) (now (state .entry)) count contact request (now (points .entry)) (now (answer .entry)) ⌝ }
+    ensures told { λ r.
+        ⌜ r ≡ tickAnswer (now (settings .entry)) (now (state .entry)) count contact request (now (points .entry)) (now (answer .entry)) ⌝ }
+    ensures image { λ _.
+        ⌜ now (state .exit)
+        ≡ tickImage (now (settings .entry)) (now (state .entry)) count contact request (now (points .entry)) (now (answer .entry)) ⌝ }
+    ensures outputs { λ _.
+        ⌜ now (answer .exit)
+        ≡ tickBuffer (now (settings .entry)) (now (state .entry)) count contact request (now (points .entry)) (now (answer .entry)) ⌝ }
 {
     let why = judged(settings, state);
     if why != 0 {
@@ -190,8 +196,8 @@ pub extern "C" fn pressgully_tick(
     }
 }
 
-// The tick with a line, in the same order. The reply is written after the ruling, before anything is done: a read shows the state as step 4 leaves
-// it, and asks for nothing.
+// The tick with a line, in the same order. The reply is written after the ruling, before anything is done: a read shows the state as step
+// 4 leaves it, and asks for nothing.
 fn run_line(
     s: Settings,
     count: i32,
@@ -262,10 +268,21 @@ pub extern "C" fn pressgully_line(
     reply: &mut [u8],
     answer: &mut [u8],
 ) -> u32
-    ensures told { λ r. ⌜ r ≡ lineAnswer (now (settings .entry)) (now (state .entry)) count contact (now (receive .entry)) (now (reply .entry)) (now (answer .entry)) ⌝ }
-    ensures image { λ _. ⌜ now (state .exit) ≡ lineImage (now (settings .entry)) (now (state .entry)) count contact (now (receive .entry)) (now (reply .entry)) (now (answer .entry)) ⌝ }
-    ensures replied { λ _. ⌜ now (reply .exit) ≡ lineReply (now (settings .entry)) (now (state .entry)) count contact (now (receive .entry)) (now (reply .entry)) (now (answer .entry)) ⌝ }
-    ensures outputs { λ _. ⌜ now (answer .exit) ≡ lineBuffer (now (settings .entry)) (now (state .entry)) count contact (now (receive .entry)) (now (reply .entry)) (now (answer .entry)) ⌝ }
+    ensures told { λ r.
+        ⌜ r ≡ lineAnswer (now (settings .entry)) (now (state .entry)) count contact (now (receive .entry)) (now (reply .entry))
+        (now (answer .entry)) ⌝ }
+    ensures image { λ _.
+        ⌜ now (state .exit)
+        ≡ lineImage (now (settings .entry)) (now (state .entry)) count contact (now (receive .entry)) (now (reply .entry))
+        (now (answer .entry)) ⌝ }
+    ensures replied { λ _.
+        ⌜ now (reply .exit)
+        ≡ lineReply (now (settings .entry)) (now (state .entry)) count contact (now (receive .entry)) (now (reply .entry))
+        (now (answer .entry)) ⌝ }
+    ensures outputs { λ _.
+        ⌜ now (answer .exit)
+        ≡ lineBuffer (now (settings .entry)) (now (state .entry)) count contact (now (receive .entry)) (now (reply .entry))
+        (now (answer .entry)) ⌝ }
 {
     let why = judged(settings, state);
     if why != 0 {
@@ -284,8 +301,12 @@ pub extern "C" fn pressgully_line(
 
 // The counts of a block, one tick after the other, in the buffer of the state.
 fn run_block(s: Settings, counts: &[i32], contact: bool, state: &mut [u8]) -> u32
-    ensures told { λ r. ⌜ Tells (now (state .entry)) (λ (st : State). r ≡ blockNumber (blockOf s st (now (counts .entry)) contact .answer)) ⌝ }
-    ensures image { λ _. ⌜ Tells (now (state .entry)) (λ (st : State). now (state .exit) ≡ imageOf (blockOf s st (now (counts .entry)) contact .state)) ⌝ }
+    ensures told { λ r.
+        ⌜ Tells (now (state .entry)) (λ (st : State).
+        r ≡ blockNumber (blockOf s st (now (counts .entry)) contact .answer)) ⌝ }
+    ensures image { λ _.
+        ⌜ Tells (now (state .entry)) (λ (st : State).
+        now (state .exit) ≡ imageOf (blockOf s st (now (counts .entry)) contact .state)) ⌝ }
 {
     if BLOCK_LIMIT < counts.len() {
         return 15;

@@ -1,6 +1,6 @@
-// The controller: its opening, one tick in the outline's six steps, a block of ticks. Settings and state go in by value, and the state comes
-// back; nothing is asked of a caller. Each step is a call of its section, and assigns the part of the state that it makes: a function that
-// takes the state and gives it back would copy it whole.
+// The controller: its opening, one tick in the outline's six steps, a block of ticks. Settings and state go in by value, and the state
+// comes back; nothing is asked of a caller. Each step is a call of its section, and assigns the part of the state that it makes: a
+// function that takes the state and gives it back would copy it whole.
 ghost use mathlib.Core.Path.{_≡_};
 ghost use Rattle.outline.specs.Tick.{tickOf};
 ghost use Rattle.outline.specs.Numbers.{outcomeNumber};

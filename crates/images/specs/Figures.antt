@@ -1,5 +1,5 @@
--- Figures of images, worked out by hand from the request, the readings and docs/IMAGES.md before any definition was seen. They are proved in
--- proofs/, and `every_image` has them as its `ensures`.
+-- Figures of images, worked out by hand from the request, the readings and docs/IMAGES.md before any definition was seen. They are proved
+-- in proofs/, and `every_image` has them as its `ensures`.
 use Prim.Native.Nat.{ℕ}
 use mathlib.Core.Path.{_≡_}
 use mathlib.Core.Bool.{Bool, true, false}
@@ -249,29 +249,94 @@ pub record Imaged : Type 0 where
 
 -- ---- verdicts: a state with some fields altered, and whether it is possible
 abbrev pub book : State → Book → State
-book st b = record { book = b; stability = st .stability; weighing = st .weighing; panel = st .panel; setpoints = st .setpoints; sequence = st .sequence; totals = st .totals }
+book st b = record {
+  book = b;
+  stability = st .stability;
+  weighing = st .weighing;
+  panel = st .panel;
+  setpoints = st .setpoints;
+  sequence = st .sequence;
+  totals = st .totals;
+}
 
 abbrev pub steady : State → Bool → ℕ → State
-steady st good run = record { book = st .book; stability = record { good = good; run = run }; weighing = st .weighing; panel = st .panel; setpoints = st .setpoints; sequence = st .sequence; totals = st .totals }
+steady st good run = record {
+  book = st .book;
+  stability = record { good = good; run = run };
+  weighing = st .weighing;
+  panel = st .panel;
+  setpoints = st .setpoints;
+  sequence = st .sequence;
+  totals = st .totals;
+}
 
 abbrev pub weighs : State → ℤ → ℤ → ℤ → ℕ → State
-weighs st zero tracked tare counter = record { book = st .book; stability = st .stability; weighing = record { zero = zero; tracked = tracked; tare = tare; counter = counter }; panel = st .panel; setpoints = st .setpoints; sequence = st .sequence; totals = st .totals }
+weighs st zero tracked tare counter = record {
+  book = st .book;
+  stability = st .stability;
+  weighing = record { zero = zero; tracked = tracked; tare = tare; counter = counter };
+  panel = st .panel;
+  setpoints = st .setpoints;
+  sequence = st .sequence;
+  totals = st .totals;
+}
 
 abbrev pub stands : State → Stage → ℕ → SequenceError → Judgement → State
-stands st g clock e j = record { book = st .book; stability = st .stability; weighing = st .weighing; panel = st .panel; setpoints = st .setpoints; sequence = record { stage = g; clock = clock; error = e; judgement = j }; totals = st .totals }
+stands st g clock e j = record {
+  book = st .book;
+  stability = st .stability;
+  weighing = st .weighing;
+  panel = st .panel;
+  setpoints = st .setpoints;
+  sequence = record { stage = g; clock = clock; error = e; judgement = j };
+  totals = st .totals;
+}
 
 abbrev pub aims : State → Setpoints → State
-aims st p = record { book = st .book; stability = st .stability; weighing = st .weighing; panel = st .panel; setpoints = p; sequence = st .sequence; totals = st .totals }
+aims st p = record {
+  book = st .book;
+  stability = st .stability;
+  weighing = st .weighing;
+  panel = st .panel;
+  setpoints = p;
+  sequence = st .sequence;
+  totals = st .totals;
+}
 
 abbrev pub sums : State → Totals → State
-sums st t = record { book = st .book; stability = st .stability; weighing = st .weighing; panel = st .panel; setpoints = st .setpoints; sequence = st .sequence; totals = t }
+sums st t = record {
+  book = st .book;
+  stability = st .stability;
+  weighing = st .weighing;
+  panel = st .panel;
+  setpoints = st .setpoints;
+  sequence = st .sequence;
+  totals = t;
+}
 
 -- opening, last, refilled, used, unbooked and ticks of a day with good ticks
 abbrev pub day : ℤ → ℤ → ℤ → ℤ → ℤ → ℕ → Book
-day opening last refilled used unbooked ticks = record { opening = opening; last = last; refilled = refilled; used = used; unbooked = unbooked; ticks = ticks; begun = true; contact = false }
+day opening last refilled used unbooked ticks = record {
+  opening = opening;
+  last = last;
+  refilled = refilled;
+  used = used;
+  unbooked = unbooked;
+  ticks = ticks;
+  begun = true;
+  contact = false;
+}
 
 abbrev pub points : ℕ → ℕ → ℕ → ℕ → Setpoints
-points target fall preliminary optional = record { target = target; fall = fall; preliminary = preliminary; optional = optional; over = 5; under = 5; near = 10 }
+points target fall preliminary optional = record {
+  target = target;
+  fall = fall;
+  preliminary = preliminary;
+  optional = optional;
+  over = 5;
+  under = 5;
+  near = 10;
+}
 
 abbrev pub under : Given → State → Bool
 under g st = possible (settingsOf g) st
@@ -326,7 +391,8 @@ pub record Judged : Type 0 where
   pub delay-with-a-clock : under givenA (stands failed (stage.DischargeStart 0) 1 error.None judgement.Under) ≡ false
   pub large-flow : under givenA (stands failed (stage.LargeDisable 0) 1 error.None judgement.None) ≡ true
   pub medium-flow-without-p : under givenA (stands failed (stage.MediumDisable 0) 1 error.None judgement.None) ≡ false
-  pub large-flow-without-op : under givenA (aims (stands failed (stage.LargeDisable 0) 1 error.None judgement.None) (points 5000 20 0 0)) ≡ false
+  pub large-flow-without-op : under givenA (aims (stands failed (stage.LargeDisable 0) 1 error.None judgement.None) (points 5000 20 0 0))
+      ≡ false
   pub start-without-f : under givenA (aims (stands failed (stage.StartDelay 0) 0 error.None judgement.None) (points 0 0 0 0)) ≡ true
   pub flow-without-f : under givenA (aims (stands failed (stage.SmallDisable 0) 0 error.None judgement.None) (points 0 0 0 0)) ≡ false
   pub p-not-above-ff : under givenA (aims idle (points 1000 20 20 0)) ≡ false

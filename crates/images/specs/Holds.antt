@@ -1,5 +1,6 @@
--- A buffer that holds a state: its bytes are the state's image, and every number of the state fits its type. A part that is written in its place leaves
--- a buffer that holds the state with this part made anew: so a tick is done in the buffer itself, and nowhere else is there a state.
+-- A buffer that holds a state: its bytes are the state's image, and every number of the state fits its type. A part that is written in
+-- its place leaves a buffer that holds the state with this part made anew: so a tick is done in the buffer itself, and nowhere else is
+-- there a state.
 use Prim.Native.Nat.{ℕ, _^_, _<_}
 use mathlib.Core.Path.{_≡_}
 use mathlib.Core.List.{List}
@@ -57,7 +58,15 @@ pub record HeldState (st : State) : Type 0 where
 
 -- the state with the panel made anew; of the other parts the outline's definitions have it
 abbrev pub withPanel : State → Panel → State
-withPanel st x = record { book = st .book; stability = st .stability; weighing = st .weighing; panel = x; setpoints = st .setpoints; sequence = st .sequence; totals = st .totals }
+withPanel st x = record {
+  book = st .book;
+  stability = st .stability;
+  weighing = st .weighing;
+  panel = x;
+  setpoints = st .setpoints;
+  sequence = st .sequence;
+  totals = st .totals;
+}
 
 -- ---- the buffer
 pub record Holds (l : List ℕ) (st : State) : Type 0 where

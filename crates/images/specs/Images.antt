@@ -11,9 +11,9 @@ use Rattle.outline.specs.Settings.{settingsOf}
 use Rattle.images.specs.StateImage.{stateLength, imageOf, stateAt}
 use Rattle.images.specs.Possible.{possible}
 
--- "20 wrong image length, then 21 impossible field": 21 where the state at the places is not possible under the settings' numbers as they are
--- given, or where, written again, it does not give the same bytes. That one comparison refuses an unused byte that is not 0, a number that
--- names nothing and a value that has no use.
+-- "20 wrong image length, then 21 impossible field": 21 where the state at the places is not possible under the settings' numbers as they
+-- are given, or where, written again, it does not give the same bytes. That one comparison refuses an unused byte that is not 0, a number
+-- that names nothing and a value that has no use.
 unfoldable pub stateRefusal : Given → List ℕ → State → ℕ
 stateRefusal g l st =
     cond (eqb (length l) stateLength)

@@ -32,7 +32,8 @@ goodGiven g = record { refusal = 0; given = g }
 -- ---- "Image to state and back is exact both ways, one image for each state."
 -- every possible state is read back, under the settings that it is possible under
 abbrev pub ReadBack : Type 0
-ReadBack = (g : Given) (s : Settings) → openOf g ≡ opening.Accepted s → (st : State) → possible s st ≡ true → stateIn g (imageOf st) ≡ good st
+ReadBack =
+    (g : Given) (s : Settings) → openOf g ≡ opening.Accepted s → (st : State) → possible s st ≡ true → stateIn g (imageOf st) ≡ good st
 
 -- and an image that is not refused is that of its state
 abbrev pub OneImage : Type 0
@@ -52,8 +53,8 @@ OneGiven = (l : List ℕ) → givenIn l .refusal ≡ 0 → givenImage (givenIn l
 abbrev pub UnusedGiven : Type 0
 UnusedGiven = (l : List ℕ) (i : ℕ) → givenIn l .refusal ≡ 0 → T (unused givenRows i) → getD l i 0 ≡ 0
 
--- ---- "An image is refused .. when a field is out of its range .. the day book does not balance, or the tracked sum passes the allowance.": the
--- Boolean is the decision of the ranges and the balance
+-- ---- "An image is refused .. when a field is out of its range .. the day book does not balance, or the tracked sum passes the
+-- allowance.": the Boolean is the decision of the ranges and the balance
 pub record Decided (s : Settings) (st : State) : Type 0 where
   pub passes : StateRange s st → Balanced (st .book) → possible s st ≡ true
   pub range : possible s st ≡ true → StateRange s st
@@ -64,10 +65,11 @@ Decides = (s : Settings) (st : State) → Decided s st
 
 -- ---- 1. no image that this controller wrote is refused under its settings
 abbrev pub RunsPass : Type 0
-RunsPass = (g : Given) (s : Settings) → openOf g ≡ opening.Accepted s → (h : History Input) → stateIn g (imageOf (runOf s h)) ≡ good (runOf s h)
+RunsPass =
+    (g : Given) (s : Settings) → openOf g ≡ opening.Accepted s → (h : History Input) → stateIn g (imageOf (runOf s h)) ≡ good (runOf s h)
 
--- ---- 2. from every image that passes, whoever wrote it: after any ticks and requests the state is in range, the day balances, the tracked sum
--- keeps the allowance, no gate is open while an error stands; and its image passes again
+-- ---- 2. from every image that passes, whoever wrote it: after any ticks and requests the state is in range, the day balances, the
+-- tracked sum keeps the allowance, no gate is open while an error stands; and its image passes again
 pub record Goes (g : Given) (s : Settings) (st : State) : Type 0 where
   pub keeps : Keeps s st
   pub image : stateIn g (imageOf st) ≡ good st

@@ -1,5 +1,5 @@
--- What a state can be: the ranges of its fields (outline's Ranges, reading D112) and the balance of its day, as one Boolean under settings. A state
--- that is not possible gives 21. Stages, errors and judgements are told by their numbers.
+-- What a state can be: the ranges of its fields (outline's Ranges, reading D112) and the balance of its day, as one Boolean under
+-- settings. A state that is not possible gives 21. Stages, errors and judgements are told by their numbers.
 use Prim.Native.Nat.{ℕ, _+_, _*_, _/_, max}
 use mathlib.Core.Bool.{Bool, true, false, cond, not, _&&_, _||_}
 use lib.Dec.{eqb, ltb, leb}
@@ -49,8 +49,8 @@ bookPossible b =
 unfoldable pub stabilityPossible : Steadiness → Stability → Bool
 stabilityPossible rule q = leb (q .run) (rule .time) && (q .good || eqb (q .run) 0)
 
--- ---- zero and tare: |zero| and |zero - tracked|, the zero last keyed, at most C·p/10; |tracked| at most L; the counter below q, and 0 where
--- q is 0; the tare 0..C·d; tracking that is off neither counts nor moves
+-- ---- zero and tare: |zero| and |zero - tracked|, the zero last keyed, at most C·p/10; |tracked| at most L; the counter below q, and 0
+-- where q is 0; the tare 0..C·d; tracking that is off neither counts nor moves
 unfoldable pub weighingPossible : Range → Tracking → Weighing → Bool
 weighingPossible r t w =
     leb (natAbs (w .zero)) ((r .capacity * r .zeroing) / 10)
@@ -111,15 +111,16 @@ flowPossible m p n =
     && (not (eqb n 4 || eqb n 5) || not (noLargeFlow m p))
     && (not (eqb n 6 || eqb n 7) || not (eqb (p .preliminary) 0))
 
--- where the last tick was good, there has been a good one; a batch or a discharge goes on after a good tick alone; the tracking counter is 0 but in
--- stage 00 after a good tick
+-- where the last tick was good, there has been a good one; a batch or a discharge goes on after a good tick alone; the tracking counter
+-- is 0 but in stage 00 after a good tick
 unfoldable pub togetherFits : Mode → Setpoints → ℕ → Bool → Bool → ℕ → Bool
 togetherFits m p n good begun counter =
     (not good || begun) && (eqb n 0 || good) && ((eqb n 0 && good) || eqb counter 0) && flowPossible m p n
 
 abbrev pub togetherPossible : Settings → State → Bool
 togetherPossible s st =
-    togetherFits (s .batching .mode) (st .setpoints) (stageNumber (st .sequence .stage)) (st .stability .good) (st .book .begun) (st .weighing .counter)
+    togetherFits (s .batching .mode) (st .setpoints) (stageNumber (st .sequence .stage)) (st .stability .good) (st .book .begun)
+    (st .weighing .counter)
 
 -- what is left to ask after the day book, the totals, and zero and tare: the other parts, and how all go together
 unfoldable pub restPossible : Settings → Stability → Setpoints → Sequence → Bool → ℕ → Bool

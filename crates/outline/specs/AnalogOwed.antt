@@ -70,8 +70,10 @@ shareOf k low high w = round binary64 false (k * natAbs (w -ℤ low)) (natAbs (h
 
 -- Between the ends two roundings make the value, that of the quotient and that of the sum. Nothing is lost before.
 pub record BetweenEnds (low high w : ℤ) : Type 0 where
-  pub current : T (not (past low high w)) → T (not (past high low w)) → currentAt low high w ≡ add binary64 (shareOf 16 low high w) (f64 (pos 4))
-  pub voltage : T (not (past low high w)) → T (not (past high low w)) → voltageAt low high w ≡ add binary64 (shareOf 10 low high w) (f64 (pos 0))
+  pub current : T (not (past low high w)) → T (not (past high low w))
+      → currentAt low high w ≡ add binary64 (shareOf 16 low high w) (f64 (pos 4))
+  pub voltage : T (not (past low high w)) → T (not (past high low w))
+      → voltageAt low high w ≡ add binary64 (shareOf 10 low high w) (f64 (pos 0))
 
 -- The ends of accepted settings are such ends, and the two floats kept are made of them.
 pub record Kept (g : Given) (s : Settings) : Type 0 where
@@ -83,4 +85,5 @@ ScaleLaw = (g : Given) (s : Settings) → openOf g ≡ opening.Accepted s → Ke
 
 abbrev pub AnalogLaws : Type 0
 AnalogLaws =
-    (low high : ℤ) → Ends low high → ExactEnds low high × ((w : ℤ) → natAbs w ≤ displayLimit → InRange low high w × BeyondEnds low high w × BetweenEnds low high w)
+    (low high : ℤ) → Ends low high
+    → ExactEnds low high × ((w : ℤ) → natAbs w ≤ displayLimit → InRange low high w × BeyondEnds low high w × BetweenEnds low high w)

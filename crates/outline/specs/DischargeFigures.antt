@@ -52,7 +52,16 @@ batchAt count =
 -- a batch of 10, OK, then a discharge at 100 that was stopped: error 7; the batch can be taken back
 abbrev pub before : State
 before = record {
-  book = record { begun = true; contact = false; opening = pos 0; last = pos 1000; refilled = pos 0; used = minus 1000; unbooked = pos 0; ticks = 16 };
+  book = record {
+    begun = true;
+    contact = false;
+    opening = pos 0;
+    last = pos 1000;
+    refilled = pos 0;
+    used = minus 1000;
+    unbooked = pos 0;
+    ticks = 16;
+  };
   stability = record { good = true; run = 1 };
   weighing = record { zero = pos 0; tracked = pos 0; tare = pos 0; counter = 0 };
   panel = record { display = display.Gross };

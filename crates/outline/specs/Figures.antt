@@ -186,7 +186,9 @@ fits n x = settingsFit (givenOf (set listA n x))
 
 -- taken in at both ends, refused one beyond either
 abbrev pub onBothSides : Ends → Bool
-onBothSides e = fits (e .place) (e .least) && fits (e .place) (e .most) && not (fits (e .place) (e .least -ℤ pos 1)) && not (fits (e .place) (e .most +ℤ pos 1))
+onBothSides e =
+    fits (e .place) (e .least) && fits (e .place) (e .most) && not (fits (e .place) (e .least -ℤ pos 1))
+    && not (fits (e .place) (e .most +ℤ pos 1))
 
 abbrev pub all : List Ends → Bool
 all [] = true

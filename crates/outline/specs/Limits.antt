@@ -99,7 +99,8 @@ rawLimit = 4000000
 abbrev pub riseLimit : ℕ
 riseLimit = 8000000
 
--- refilled, used and unbooked stop at it: dayTicks changes of at most riseLimit each; unbooked is the difference of two raws, however many ticks
+-- refilled, used and unbooked stop at it: dayTicks changes of at most riseLimit each; unbooked is the difference of two raws, however
+-- many ticks
 abbrev pub bookLimit : ℕ
 bookLimit = 69120000000000
 

@@ -116,7 +116,8 @@ pub record Tickets : Type 0 where
   pub none : ticketAfter (tickAt settingsA beforeClose (pos 2000001) request.DayClose) ≡ []
   -- tracked, and not the zero, of which a keyed one is a part
   pub left :
-      leftText (record { zero = pos 7; tracked = minus 3; tare = pos 5; counter = 2 }) (record { total = 12; count = 2; back = batch.Nothing })
+      leftText (record { zero = pos 7; tracked = minus 3; tare = pos 5; counter = 2 })
+      (record { total = 12; count = 2; back = batch.Nothing })
       ≡ printed "tracked=-3" ++ printed "batches=2" ++ printed "total=12"
   pub refused : refusedText 12 ≡ printed "refused=12"
   -- numbers

@@ -30,7 +30,16 @@ writtenA = record {
   range = record { capacity = 10000; division = 1; zeroing = 2 };
   tracking = record { time = 100; width = 5; allowance = 20 };
   steadiness = record { time = 100; width = 2 };
-  batching = record { mode = mode.Normal; start = 0; large = 0; medium = 0; small = 0; judge = 0; flow = 6000; discharge = record { start = 0; end = 0; limit = 6000 } };
+  batching = record {
+    mode = mode.Normal;
+    start = 0;
+    large = 0;
+    medium = 0;
+    small = 0;
+    judge = 0;
+    flow = 6000;
+    discharge = record { start = 0; end = 0; limit = 6000 };
+  };
   address = 0;
   board = board.None;
   scale = record { low = f64 (pos 0); span = f64 (pos 10000) };
@@ -48,7 +57,16 @@ writtenB = record {
   range = record { capacity = 12000; division = 5; zeroing = 3 };
   tracking = record { time = 40; width = 6; allowance = 30 };
   steadiness = record { time = 20; width = 4 };
-  batching = record { mode = mode.Loss; start = 11; large = 12; medium = 13; small = 14; judge = 15; flow = 16; discharge = record { start = 18; end = 19; limit = 21 } };
+  batching = record {
+    mode = mode.Loss;
+    start = 11;
+    large = 12;
+    medium = 13;
+    small = 14;
+    judge = 15;
+    flow = 16;
+    discharge = record { start = 18; end = 19; limit = 21 };
+  };
   address = 17;
   board = board.Current;
   scale = record { low = f64 (minus 7); span = f64 (pos 77) };
@@ -57,7 +75,16 @@ writtenB = record {
 -- "Opening: zero, tare, totals, setpoints and error 0, stage 00, display gross, no judgement, nothing to take back, no good tick yet."
 abbrev pub writtenState : State
 writtenState = record {
-  book = record { begun = false; contact = false; opening = pos 0; last = pos 0; refilled = pos 0; used = pos 0; unbooked = pos 0; ticks = 0 };
+  book = record {
+    begun = false;
+    contact = false;
+    opening = pos 0;
+    last = pos 0;
+    refilled = pos 0;
+    used = pos 0;
+    unbooked = pos 0;
+    ticks = 0;
+  };
   stability = record { good = false; run = 0 };
   weighing = record { zero = pos 0; tracked = pos 0; tare = pos 0; counter = 0 };
   panel = record { display = display.Gross };

@@ -28,7 +28,8 @@ use Rattle.outline.specs.Stages.{waitOf}
 abbrev pub Accepted : Settings → Type 0
 Accepted s = (g : Given) × (openOf g ≡ opening.Accepted s)
 
--- ---- "Any value outside its range gives answer 10 and no state.": a state is given exactly where the answer is 0, and it is the opening state
+-- ---- "Any value outside its range gives answer 10 and no state.": a state is given exactly where the answer is 0, and it is the opening
+-- state
 pub record Opened (g : Given) : Type 0 where
   pub refused : openingNumber (openOf g) ≡ 10 → openedOf (openOf g) ≡ []
   pub accepted : openingNumber (openOf g) ≡ 0 → openedOf (openOf g) ≡ openState ∷ []
@@ -60,7 +61,8 @@ pub record Kept (m : Mode) (p : Setpoints) : Type 0 where
   -- "P is 0, or more than FF and at most F."
   pub preliminary-rule : (p .preliminary ≡ 0) ⊎ ((p .fall < p .preliminary) × (p .preliminary ≤ p .target))
   -- "In mode 1, OP is 0, or more than FF and P and at most F."
-  pub optional-rule : m ≡ mode.Normal → (p .optional ≡ 0) ⊎ ((p .fall < p .optional) × (p .preliminary < p .optional) × (p .optional ≤ p .target))
+  pub optional-rule : m ≡ mode.Normal
+      → (p .optional ≡ 0) ⊎ ((p .fall < p .optional) × (p .preliminary < p .optional) × (p .optional ≤ p .target))
 
 abbrev pub SetpointLaw : Type 0
 SetpointLaw = (m : Mode) (p : Setpoints) → (setpointsFit m p ≡ true → Kept m p) × (Kept m p → setpointsFit m p ≡ true)

@@ -10,25 +10,81 @@ use Rattle.types.specs.declared.stages.Totals.{Totals}
 use Rattle.types.specs.declared.machine.State.{State}
 
 abbrev pub withBook : State → Book → State
-withBook st x = record { book = x; stability = st .stability; weighing = st .weighing; panel = st .panel; setpoints = st .setpoints; sequence = st .sequence; totals = st .totals }
+withBook st x = record {
+  book = x;
+  stability = st .stability;
+  weighing = st .weighing;
+  panel = st .panel;
+  setpoints = st .setpoints;
+  sequence = st .sequence;
+  totals = st .totals;
+}
 
 abbrev pub withStability : State → Stability → State
-withStability st x = record { book = st .book; stability = x; weighing = st .weighing; panel = st .panel; setpoints = st .setpoints; sequence = st .sequence; totals = st .totals }
+withStability st x = record {
+  book = st .book;
+  stability = x;
+  weighing = st .weighing;
+  panel = st .panel;
+  setpoints = st .setpoints;
+  sequence = st .sequence;
+  totals = st .totals;
+}
 
 abbrev pub withWeighing : State → Weighing → State
-withWeighing st x = record { book = st .book; stability = st .stability; weighing = x; panel = st .panel; setpoints = st .setpoints; sequence = st .sequence; totals = st .totals }
+withWeighing st x = record {
+  book = st .book;
+  stability = st .stability;
+  weighing = x;
+  panel = st .panel;
+  setpoints = st .setpoints;
+  sequence = st .sequence;
+  totals = st .totals;
+}
 
 abbrev pub withDisplay : State → Display → State
-withDisplay st x = record { book = st .book; stability = st .stability; weighing = st .weighing; panel = record { display = x }; setpoints = st .setpoints; sequence = st .sequence; totals = st .totals }
+withDisplay st x = record {
+  book = st .book;
+  stability = st .stability;
+  weighing = st .weighing;
+  panel = record { display = x };
+  setpoints = st .setpoints;
+  sequence = st .sequence;
+  totals = st .totals;
+}
 
 abbrev pub withSetpoints : State → Setpoints → State
-withSetpoints st x = record { book = st .book; stability = st .stability; weighing = st .weighing; panel = st .panel; setpoints = x; sequence = st .sequence; totals = st .totals }
+withSetpoints st x = record {
+  book = st .book;
+  stability = st .stability;
+  weighing = st .weighing;
+  panel = st .panel;
+  setpoints = x;
+  sequence = st .sequence;
+  totals = st .totals;
+}
 
 abbrev pub withSequence : State → Sequence → State
-withSequence st x = record { book = st .book; stability = st .stability; weighing = st .weighing; panel = st .panel; setpoints = st .setpoints; sequence = x; totals = st .totals }
+withSequence st x = record {
+  book = st .book;
+  stability = st .stability;
+  weighing = st .weighing;
+  panel = st .panel;
+  setpoints = st .setpoints;
+  sequence = x;
+  totals = st .totals;
+}
 
 abbrev pub withTotals : State → Totals → State
-withTotals st x = record { book = st .book; stability = st .stability; weighing = st .weighing; panel = st .panel; setpoints = st .setpoints; sequence = st .sequence; totals = x }
+withTotals st x = record {
+  book = st .book;
+  stability = st .stability;
+  weighing = st .weighing;
+  panel = st .panel;
+  setpoints = st .setpoints;
+  sequence = st .sequence;
+  totals = x;
+}
 
 -- a where t is so, else b; part by part, so that a theorem on one part opens that part alone
 abbrev pub pickState : Bool → State → State → State

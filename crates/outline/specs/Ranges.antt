@@ -18,7 +18,9 @@ use Rattle.types.specs.declared.weight.Weights.{Weights}
 use Rattle.types.specs.declared.daybook.Book.{Book}
 use Rattle.types.specs.declared.stages.Setpoints.{Setpoints}
 use Rattle.types.specs.declared.stages.Stage.{Stage}
-use Rattle.types.specs.declared.stages.Stage.the-variants.{Idle, StartDelay, LargeDisable, LargeFlow, MediumDisable, MediumFlow, SmallDisable, SmallFlow, JudgeDelay, JudgeWait, DischargeStart, Discharge, DischargeEnd}
+use Rattle.types.specs.declared.stages.Stage.the-variants.{Idle, StartDelay, LargeDisable, LargeFlow, MediumDisable, MediumFlow}
+use Rattle.types.specs.declared.stages.Stage.the-variants.{SmallDisable, SmallFlow, JudgeDelay, JudgeWait, DischargeStart, Discharge}
+use Rattle.types.specs.declared.stages.Stage.the-variants.{DischargeEnd}
 use Rattle.types.specs.declared.stages.Judgement.the-variants as judgement
 use Rattle.types.specs.declared.stages.SequenceError.{SequenceError}
 use Rattle.types.specs.declared.stages.SequenceError.the-variants as error
@@ -44,7 +46,8 @@ pub record BookRange (b : Book) : Type 0 where
   pub late : natAbs (b .unbooked +ℤ b .last) ≤ rawLimit
   pub none : b .ticks < dayTicks → b .unbooked ≡ pos 0
   -- before the first good tick all but the tick count is 0, and the contact noted is open
-  pub blank : b .begun ≡ false → (b .contact ≡ false) × (b .opening ≡ pos 0) × (b .last ≡ pos 0) × (b .refilled ≡ pos 0) × (b .used ≡ pos 0) × (b .unbooked ≡ pos 0)
+  pub blank : b .begun ≡ false
+      → (b .contact ≡ false) × (b .opening ≡ pos 0) × (b .last ≡ pos 0) × (b .refilled ≡ pos 0) × (b .used ≡ pos 0) × (b .unbooked ≡ pos 0)
 
 -- "the day balances"
 abbrev pub Balanced : Book → Type 0
@@ -117,7 +120,8 @@ pub record TotalsRange (t : Totals) : Type 0 where
   pub count : t .count ≤ batchLimit
   pub back : BackRange t (t .back)
 
--- the flow stages that a batch with these setpoints has: none where F is 0, 04 and 05 where there is a large flow, 06 and 07 where P is not 0
+-- the flow stages that a batch with these setpoints has: none where F is 0, 04 and 05 where there is a large flow, 06 and 07 where P is
+-- not 0
 abbrev pub flowFits : Mode → Setpoints → Stage → Bool
 flowFits m p Idle = true
 flowFits m p (StartDelay t) = true

@@ -1,5 +1,6 @@
--- A read asks nothing of its tick, so that what step 4 leaves of display, totals and setpoints is what stood before it: the reply due can be
--- made from the state before the tick and from what the tick answers. A law that the proof of the tick with a line cites. Assumes nothing.
+-- A read asks nothing of its tick, so that what step 4 leaves of display, totals and setpoints is what stood before it: the reply due can
+-- be made from the state before the tick and from what the tick answers. A law that the proof of the tick with a line cites. Assumes
+-- nothing.
 use mathlib.Core.Path.{_≡_, refl, ap}
 use Rattle.types.specs.declared.settings.Settings.{Settings}
 use Rattle.types.specs.declared.stages.Setpoints.{Setpoints}
@@ -37,7 +38,8 @@ module _ (s : Settings) (st : State) (i : Input) where
   unfolding enteredOf
   setpoints-stay e = ap (λ (t : State). t .setpoints) (settled-unasked e)
 
-  word-before : (w : Word) → i .request ≡ wordRequest w → (x : Reading) (o : Outcome) → wordReply w (settledOf s st i .state) x o ≡ wordReply w st x o
+  word-before : (w : Word) → i .request ≡ wordRequest w → (x : Reading) (o : Outcome)
+      → wordReply w (settledOf s st i .state) x o ≡ wordReply w st x o
   word-before word.ReadWeight e x o = ap (λ (p : Panel). reply.Weight (shownOf (p .display) x)) (panel-stays e)
   word-before word.ReadTotal e x o = ap (λ (t : Totals). reply.Total (t .total) (t .count)) (totals-stay e)
   word-before word.ReadSetpoints e x o = ap (λ (p : Setpoints). reply.Points p) (setpoints-stay e)
@@ -53,7 +55,8 @@ module _ (s : Settings) (st : State) (i : Input) where
   word-before word.DayClose e x o = refl
   word-before word.Discharge e x o = refl
 
-  pub due-before : (c : Command) → i .request ≡ requestOf c → (x : Reading) (o : Outcome) → replyDue c (settledOf s st i .state) x o ≡ replyDue c st x o
+  pub due-before : (c : Command) → i .request ≡ requestOf c → (x : Reading) (o : Outcome)
+      → replyDue c (settledOf s st i .state) x o ≡ replyDue c st x o
   unfolding requestOf replyDue
   due-before (command.Do w) e x o = word-before w e x o
   due-before (command.Set p) e x o = refl

@@ -67,7 +67,8 @@ standing st =
 -- setpoints with this final, over, under and near zero, and the rest 0
 abbrev pub setNumber : ℕ → ℕ → ℕ → ℕ → ℕ
 setNumber f over under near =
-    number openState (pos 0) (request.Set (record { target = f; fall = 0; preliminary = 0; optional = 0; over = over; under = under; near = near }))
+    number openState (pos 0)
+    (request.Set (record { target = f; fall = 0; preliminary = 0; optional = 0; over = over; under = under; near = near }))
 
 -- a tick's zero in force and tare, and the net that it answers
 abbrev pub weighed : Settings → State → ℤ → Request → List ℤ

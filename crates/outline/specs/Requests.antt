@@ -116,7 +116,13 @@ keying st = record { outcome = outcome.Done; state = st; held = false; keyed = t
 
 -- the day ends as step 2 left it, and the next begins
 abbrev pub closing : State → Settled
-closing st = record { outcome = outcome.Done; state = withBook st (closedOf (st .book)); held = false; keyed = false; closed = closed.Day (st .book) }
+closing st = record {
+  outcome = outcome.Done;
+  state = withBook st (closedOf (st .book));
+  held = false;
+  keyed = false;
+  closed = closed.Day (st .book);
+}
 
 unfoldable pub grantedOf : State → Weights → Request → Settled
 grantedOf st x request.Nothing = plainly st

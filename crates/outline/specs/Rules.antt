@@ -21,7 +21,8 @@ use Rattle.outline.specs.Weight.{rawOf}
 use Rattle.outline.specs.DayBook.{openBook, bookOf, closedOf}
 use Rattle.outline.specs.Tick.{openState, countIn, blockOf}
 use Rattle.outline.specs.Numbers.{outcomeNumber, errorNumber, judgementNumber, blockNumber, toldNumber}
-use Rattle.outline.specs.Figures.{minus, givenOf, listA, settingsA, settingsVolts, tickAt, told, next, held, steady, setpoints, oneBatch}
+use Rattle.outline.specs.Figures.{minus, givenOf, listA, settingsA, settingsVolts, tickAt, told, next, held, steady, setpoints}
+use Rattle.outline.specs.Figures.{oneBatch}
 use Rattle.outline.specs.Worked.{leg, answers, stagesIn, gatesIn, shut, ascii, line, ask, reply, settings7}
 
 -- ---- from count to weight
@@ -38,7 +39,8 @@ abbrev pub settingsStill : Settings
 settingsStill = settingsOf (givenOf (set listA 6 (pos 0)))
 
 abbrev pub tareAt : ℤ → ℕ
-tareAt count = outcomeNumber (told settingsStill (foldl (countIn settingsStill false) openState (replicate 100 count)) count request.Tare .outcome)
+tareAt count =
+    outcomeNumber (told settingsStill (foldl (countIn settingsStill false) openState (replicate 100 count)) count request.Tare .outcome)
 
 pub record Weighed : Type 0 where
   -- a half of a tenth on either side of Z goes away from zero
@@ -115,7 +117,8 @@ abbrev pub errorOf : Answer → ℕ
 errorOf a = errorNumber (a .error)
 
 abbrev pub startWith : Setpoints → ℤ → ℕ → List Answer
-startWith p count n = answers settingsA (leg 1 count (request.Set p) ∷ leg 1 count request.Start ∷ leg n count request.Nothing ∷ []) openState
+startWith p count n =
+    answers settingsA (leg 1 count (request.Set p) ∷ leg 1 count request.Start ∷ leg n count request.Nothing ∷ []) openState
 
 -- from -10 to F - FF = 0, and down again to -5 before the finish
 abbrev pub unbooked : List Answer
@@ -128,7 +131,8 @@ unbooked =
 abbrev pub largeToSmall : List Answer
 largeToSmall =
     answers settingsA
-    (leg 1 (pos 0) (request.Set (setpoints 100 0 0 50)) ∷ leg 1 (pos 0) request.Start ∷ leg 2 (pos 0) request.Nothing ∷ leg 2 (pos 500) request.Nothing ∷ [])
+    (leg 1 (pos 0) (request.Set (setpoints 100 0 0 50)) ∷ leg 1 (pos 0) request.Start ∷ leg 2 (pos 0) request.Nothing
+    ∷ leg 2 (pos 500) request.Nothing ∷ [])
     openState
 
 -- loss-in-weight: settings A in mode 2; 100 divisions tared away, then the tank falls
@@ -185,7 +189,16 @@ pub record Staged : Type 0 where
 -- ---- day book, near zero, lines, blocks
 -- a book with n ticks today, the contact open at its last good tick
 abbrev pub lateBook : ℕ → Book
-lateBook n = record { begun = true; contact = false; opening = pos 0; last = pos 100; refilled = pos 100; used = pos 0; unbooked = pos 0; ticks = n }
+lateBook n = record {
+  begun = true;
+  contact = false;
+  opening = pos 0;
+  last = pos 100;
+  refilled = pos 100;
+  used = pos 0;
+  unbooked = pos 0;
+  ticks = n;
+}
 
 pub record Booked : Type 0 where
   pub first : bookOf openBook (Tenths (pos 70)) false .opening ≡ pos 70
@@ -193,7 +206,8 @@ pub record Booked : Type 0 where
   pub not-booked : bookOf (lateBook 8640000) (Tenths (pos 90)) false .used ≡ pos 0
   pub unbooked : bookOf (lateBook 8640000) (Tenths (pos 90)) true .unbooked ≡ pos 10
   pub bad-counts : bookOf (lateBook 8639999) Bad false .ticks ≡ dayTicks
-  pub next-day : closedOf (lateBook 5) ≡ record { begun = true; contact = false; opening = pos 100; last = pos 100; refilled = pos 0; used = pos 0; unbooked = pos 0; ticks = 0 }
+  pub next-day : closedOf (lateBook 5)
+      ≡ record { begun = true; contact = false; opening = pos 100; last = pos 100; refilled = pos 0; used = pos 0; unbooked = pos 0; ticks = 0 }
   -- near zero of 0: on at 0, off above, off in a bad tick
   pub near : told settingsA openState (pos 4) request.Nothing .near ≡ true
   pub near-above : told settingsA openState (pos 5) request.Nothing .near ≡ false
@@ -212,7 +226,8 @@ pub record Booked : Type 0 where
   pub long-first : toldNumber (ask settings7 openState (pos 0) (replicate 65 88 ++ (13 ∷ 10 ∷ [])) 9 .told) ≡ 11
   pub empty-prefixed : toldNumber (ask settings7 openState (pos 0) (line "") 9 .told) ≡ 12
   -- a block is its ticks; an empty one changes nothing; a longer one is refused
-  pub block : blockOf settingsA openState (pos 0 ∷ minus 30 ∷ []) false .state ≡ next (next openState (pos 0) request.Nothing) (minus 30) request.Nothing
+  pub block : blockOf settingsA openState (pos 0 ∷ minus 30 ∷ []) false .state
+      ≡ next (next openState (pos 0) request.Nothing) (minus 30) request.Nothing
   pub block-empty : (blockNumber (blockOf settingsA running [] true .answer) ≡ 0) × (blockOf settingsA running [] true .state ≡ running)
   pub block-long-state : blockOf settingsA running (replicate (suc blockLimit) (pos 0)) false .state ≡ running
   pub block-long : blockNumber (blockOf settingsA openState (replicate (suc blockLimit) (pos 0)) false .answer) ≡ 15

@@ -14,7 +14,9 @@ use Rattle.types.specs.declared.settings.Opening.{Opening}
 use Rattle.types.specs.declared.settings.Opening.the-variants as opening
 use Rattle.types.specs.declared.analog.Board.{Board}
 use Rattle.types.specs.declared.analog.Board.the-variants as board
-use Rattle.outline.specs.Limits.{countLimit, capacityLimit, zeroRangeLimit, trackTimeLimit, trackWidthLimit, allowanceLimit, stableTimeLeast, stableTimeLimit, stableWidthLimit, delayLimit, flowLimit, dischargeLimit, addressLimit, endLimit}
+use Rattle.outline.specs.Limits.{countLimit, capacityLimit, zeroRangeLimit, trackTimeLimit, trackWidthLimit, allowanceLimit}
+use Rattle.outline.specs.Limits.{stableTimeLeast, stableTimeLimit, stableWidthLimit, delayLimit, flowLimit, dischargeLimit}
+use Rattle.outline.specs.Limits.{addressLimit, endLimit}
 use Rattle.outline.specs.Analog.{scaleOf}
 
 -- from a to b, both taken in
@@ -45,7 +47,8 @@ zeroRangeFits g = fromTo 1 zeroRangeLimit (g .zeroing)
 
 -- "| tracking time q, width w, allowance L | 0..500 ticks; 0..45 tenths; 0..10,000 tenths |"
 unfoldable pub trackingFits : Given → Bool
-trackingFits g = fromTo 0 trackTimeLimit (g .tracktime) && fromTo 0 trackWidthLimit (g .trackwidth) && fromTo 0 allowanceLimit (g .allowance)
+trackingFits g =
+    fromTo 0 trackTimeLimit (g .tracktime) && fromTo 0 trackWidthLimit (g .trackwidth) && fromTo 0 allowanceLimit (g .allowance)
 
 -- "| stability time k, width s | 10..500 ticks; 0..9 divisions |"
 unfoldable pub stabilityFits : Given → Bool

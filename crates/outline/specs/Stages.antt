@@ -11,7 +11,9 @@ use Rattle.types.specs.declared.settings.Batching.{Batching}
 use Rattle.types.specs.declared.weight.Weights.{Weights}
 use Rattle.types.specs.declared.stages.Setpoints.{Setpoints}
 use Rattle.types.specs.declared.stages.Stage.{Stage}
-use Rattle.types.specs.declared.stages.Stage.the-variants.{Idle, StartDelay, LargeDisable, LargeFlow, MediumDisable, MediumFlow, SmallDisable, SmallFlow, JudgeDelay, JudgeWait, DischargeStart, Discharge, DischargeEnd}
+use Rattle.types.specs.declared.stages.Stage.the-variants.{Idle, StartDelay, LargeDisable, LargeFlow, MediumDisable, MediumFlow}
+use Rattle.types.specs.declared.stages.Stage.the-variants.{SmallDisable, SmallFlow, JudgeDelay, JudgeWait, DischargeStart, Discharge}
+use Rattle.types.specs.declared.stages.Stage.the-variants.{DischargeEnd}
 use Rattle.types.specs.declared.stages.Judgement.{Judgement}
 use Rattle.types.specs.declared.stages.Judgement.the-variants as judgement
 use Rattle.types.specs.declared.stages.SequenceError.{SequenceError}
@@ -208,14 +210,15 @@ stopSequence q = cond (idleOf (q .stage)) q (failedOf q (stopError (q .stage)))
 
 -- the sequence after a move
 unfoldable pub landOf : Sequence → Move → Advanced
-landOf q (To stage) = record { sequence = record { stage = stage; clock = clockOf q; error = q .error; judgement = q .judgement }; finished = false }
+landOf q (To stage) =
+    record { sequence = record { stage = stage; clock = clockOf q; error = q .error; judgement = q .judgement }; finished = false }
 landOf q (Fail e) = record { sequence = failedOf q e; finished = false }
 landOf q (Finish j) = record { sequence = record { stage = Idle; clock = 0; error = q .error; judgement = j }; finished = true }
 -- a discharge ends: no batch finishes, the judgement stays
 landOf q Emptied = record { sequence = record { stage = Idle; clock = 0; error = q .error; judgement = q .judgement }; finished = false }
 
--- "a bad or overloaded tick in 03-11, error 9 (house)". "Step 6 tests error 9, then 6, then the stage." A1, of 14 to 16: "a bad or overloaded
--- tick error 9, tested first, then the clock."
+-- "a bad or overloaded tick in 03-11, error 9 (house)". "Step 6 tests error 9, then 6, then the stage." A1, of 14 to 16: "a bad or
+-- overloaded tick error 9, tested first, then the clock."
 unfoldable pub advanceOf : Batching → Setpoints → Sequence → Facts → Advanced
 advanceOf b p q f =
     cond (idleOf (q .stage)) (record { sequence = q; finished = false })

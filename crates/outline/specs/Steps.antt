@@ -33,14 +33,24 @@ use Rattle.outline.specs.Stages.{idleOf, startSequence, stopSequence, di
 use Rattle.outline.specs.Totals.{clearTotals, takenBack, bookedTotals, bookedSequence}
 use Rattle.outline.specs.Parts.{withBook, withWeighing, withDisplay, withSetpoints, withSequence, withTotals, pickState}
 use Rattle.outline.specs.Requests.{plainly, rowsTo, firstOf, grantOf, unlessRefused, decidedOf, grantedOf, rulingOf}
-use Rattle.outline.specs.Tick.{enteredOf, weightsOf, settledOf, servedOf, withTracking, finishedOf, steppedOf, endedOf, nextOf, outputsOf, tickOf, unaskedOf}
+use Rattle.outline.specs.Tick.{enteredOf, weightsOf, settledOf, servedOf, withTracking, finishedOf, steppedOf, endedOf, nextOf}
+use Rattle.outline.specs.Tick.{outputsOf, tickOf, unaskedOf}
 
 -- the state with what steps 1 to 5 of a tick without a request make anew
 abbrev pub partsOf : State → Book → Stability → Weighing → State
-partsOf st b q w = record { book = b; stability = q; weighing = w; panel = st .panel; setpoints = st .setpoints; sequence = st .sequence; totals = st .totals }
+partsOf st b q w = record {
+  book = b;
+  stability = q;
+  weighing = w;
+  panel = st .panel;
+  setpoints = st .setpoints;
+  sequence = st .sequence;
+  totals = st .totals;
+}
 
 -- ---- a tick that is asked nothing: steps 1 to 5, call by call
-pub record Parts (s : Settings) (contact : Bool) (st : State) (count : ℤ) (raw : Raw) (q : Stability) (b : Book) (x : Weights) (idle : Bool) (w : Weighing) : Type 0 where
+pub record Parts (s : Settings) (contact : Bool) (st : State) (count : ℤ) (raw : Raw) (q : Stability) (b : Book) (x : Weights)
+    (idle : Bool) (w : Weighing) : Type 0 where
   pub raws : raw ≡ rawOf (s .calibration) count
   pub steadied : q ≡ steadiedOf (s .steadiness) (st .stability) (st .book .last) raw
   pub booked : b ≡ bookOf (st .book) raw contact
@@ -48,8 +58,8 @@ pub record Parts (s : Settings) (contact : Bool) (st : State) (count : ℤ) (raw
   pub idles : idle ≡ idleOf (st .sequence .stage)
   pub tracked : w ≡ trackedOf s idle false x (st .weighing)
 
-module _ {s : Settings} {contact : Bool} {st : State} {count : ℤ} {raw : Raw} {q : Stability} {b : Book} {x : Weights} {idle : Bool} {w : Weighing}
-    (p : Parts s contact st count raw q b x idle w) where
+module _ {s : Settings} {contact : Bool} {st : State} {count : ℤ} {raw : Raw} {q : Stability} {b : Book} {x : Weights}
+    {idle : Bool} {w : Weighing} (p : Parts s contact st count raw q b x idle w) where
   -- with no request the next state is step 6 on those parts
   pub parts-next : steppedOf s (partsOf st b q w) x ≡ nextOf s st (unaskedOf count contact)
   unfolding nextOf settledOf servedOf decidedOf grantedOf rulingOf enteredOf weightsOf withTracking endedOf
@@ -70,13 +80,15 @@ module _ (s : Settings) (st : State) (x : Weights) where
   step-idle e = simp e
 
   -- `n` is the setpoints, or a copy of them
-  module _ (n : Setpoints) (fit : Bool) (v : ℤ) (a : Advanced) (en : n ≡ st .setpoints) (ef : fit ≡ fitOf x) (ev : v ≡ comparedOf (s .batching .mode) x)
+  module _ (n : Setpoints) (fit : Bool) (v : ℤ) (a : Advanced) (en : n ≡ st .setpoints) (ef : fit ≡ fitOf x)
+      (ev : v ≡ comparedOf (s .batching .mode) x)
       (ea : a ≡ advanceOf (s .batching) n (st .sequence) (factsAt n (not fit) (x .stable) v (x .gross))) where
     pub step-on : a .finished ≡ false → withSequence st (a .sequence) ≡ steppedOf s st x
     unfolding steppedOf finishedOf factsOf
     step-on e = simp (← en, ← ef, ← ev, ← ea, e)
 
-    pub step-finished : (sq : Sequence) (t : Totals) → a .finished ≡ true → sq ≡ bookedSequence (st .totals) v (a .sequence) → t ≡ bookedTotals (st .totals) v
+    pub step-finished : (sq : Sequence) (t : Totals) → a .finished ≡ true → sq ≡ bookedSequence (st .totals) v (a .sequence)
+        → t ≡ bookedTotals (st .totals) v
         → withTotals (withSequence st sq) t ≡ steppedOf s st x
     unfolding steppedOf finishedOf factsOf
     step-finished sq t e es et = simp (← en, ← ef, ← ev, ← ea, e, es, et)
@@ -109,8 +121,10 @@ unfolding outputsOf
 shown s a x r e = simp e
 
 -- the tick of the parts
-pub parts-tick : {s : Settings} {contact : Bool} {st : State} {count : ℤ} {raw : Raw} {q : Stability} {b : Book} {x : Weights} {idle : Bool} {w : Weighing}
-    → Parts s contact st count raw q b x idle w → (r : State) (o : Answer) → r ≡ steppedOf s (partsOf st b q w) x → o ≡ outputsOf s (plainly r) x r
+pub parts-tick : {s : Settings} {contact : Bool} {st : State} {count : ℤ} {raw : Raw} {q : Stability} {b : Book} {x : Weights}
+    {idle : Bool} {w : Weighing} → Parts s contact st count raw q b x idle w → (r : State) (o : Answer)
+    → r ≡ steppedOf s (partsOf st b q w) x
+    → o ≡ outputsOf s (plainly r) x r
     → _≡_ {A = Ticked} (record { state = r; answer = o }) (tickOf s st (unaskedOf count contact))
 unfolding tickOf
 parts-tick {s} {contact} {st} {count} {q = q} {b = b} {x = x} p r o er eo =
@@ -132,7 +146,8 @@ leftOf o st held keyed day = record { outcome = o; state = st; held = held; keye
 
 -- where the ways of step 4 meet
 pub left-by : {a : Settled} {st st′ : State} {held held′ keyed keyed′ : Bool} {day day′ : Closed}
-    → st′ ≡ st → held′ ≡ held → keyed′ ≡ keyed → day′ ≡ day → leftOf outcome.Done st held keyed day ≡ a → leftOf outcome.Done st′ held′ keyed′ day′ ≡ a
+    → st′ ≡ st → held′ ≡ held → keyed′ ≡ keyed → day′ ≡ day → leftOf outcome.Done st held keyed day ≡ a
+    → leftOf outcome.Done st′ held′ keyed′ day′ ≡ a
 left-by es eh ek ed e = (λ i. leftOf outcome.Done (es i) (eh i) (ek i) (ed i)) ∙ e
 
 -- each way: the part that the request changes
@@ -141,35 +156,43 @@ module _ (st : State) (x : Weights) (d : Request) where
   unfolding grantedOf
   left-nothing e = simp e
 
-  pub left-zero : d ≡ request.Zero → (w : Weighing) → w ≡ zeroedOf (st .weighing) (x .raw) → leftOf outcome.Done (withWeighing st w) false true closed.Nothing ≡ grantedOf st x d
+  pub left-zero : d ≡ request.Zero → (w : Weighing) → w ≡ zeroedOf (st .weighing) (x .raw)
+      → leftOf outcome.Done (withWeighing st w) false true closed.Nothing ≡ grantedOf st x d
   unfolding grantedOf
   left-zero e w ew = simp (e, ew)
 
-  pub left-tare : d ≡ request.Tare → (w : Weighing) → w ≡ taredOf (st .weighing) (x .gross) → leftOf outcome.Done (withWeighing st w) false false closed.Nothing ≡ grantedOf st x d
+  pub left-tare : d ≡ request.Tare → (w : Weighing) → w ≡ taredOf (st .weighing) (x .gross)
+      → leftOf outcome.Done (withWeighing st w) false false closed.Nothing ≡ grantedOf st x d
   unfolding grantedOf
   left-tare e w ew = simp (e, ew)
 
-  pub left-tare-clear : d ≡ request.TareClear → (w : Weighing) → w ≡ taredOf (st .weighing) (pos 0) → leftOf outcome.Done (withWeighing st w) false false closed.Nothing ≡ grantedOf st x d
+  pub left-tare-clear : d ≡ request.TareClear → (w : Weighing) → w ≡ taredOf (st .weighing) (pos 0)
+      → leftOf outcome.Done (withWeighing st w) false false closed.Nothing ≡ grantedOf st x d
   unfolding grantedOf
   left-tare-clear e w ew = simp (e, ew)
 
-  pub left-start : d ≡ request.Start → (q : Sequence) → q ≡ startSequence → leftOf outcome.Done (withSequence st q) true false closed.Nothing ≡ grantedOf st x d
+  pub left-start : d ≡ request.Start → (q : Sequence) → q ≡ startSequence
+      → leftOf outcome.Done (withSequence st q) true false closed.Nothing ≡ grantedOf st x d
   unfolding grantedOf
   left-start e q eq = simp (e, eq)
 
-  pub left-stop : d ≡ request.Stop → (q : Sequence) → q ≡ stopSequence (st .sequence) → leftOf outcome.Done (withSequence st q) true false closed.Nothing ≡ grantedOf st x d
+  pub left-stop : d ≡ request.Stop → (q : Sequence) → q ≡ stopSequence (st .sequence)
+      → leftOf outcome.Done (withSequence st q) true false closed.Nothing ≡ grantedOf st x d
   unfolding grantedOf
   left-stop e q eq = simp (e, eq)
 
-  pub left-set : (p : Setpoints) → d ≡ request.Set p → leftOf outcome.Done (withSetpoints st p) false false closed.Nothing ≡ grantedOf st x d
+  pub left-set : (p : Setpoints) → d ≡ request.Set p
+      → leftOf outcome.Done (withSetpoints st p) false false closed.Nothing ≡ grantedOf st x d
   unfolding grantedOf
   left-set p e = simp e
 
-  pub left-total-clear : d ≡ request.TotalClear → (t : Totals) → t ≡ clearTotals → leftOf outcome.Done (withTotals st t) false false closed.Nothing ≡ grantedOf st x d
+  pub left-total-clear : d ≡ request.TotalClear → (t : Totals) → t ≡ clearTotals
+      → leftOf outcome.Done (withTotals st t) false false closed.Nothing ≡ grantedOf st x d
   unfolding grantedOf
   left-total-clear e t et = simp (e, et)
 
-  pub left-undo : d ≡ request.Undo → (t : Totals) → t ≡ takenBack (st .totals) → leftOf outcome.Done (withTotals st t) false false closed.Nothing ≡ grantedOf st x d
+  pub left-undo : d ≡ request.Undo → (t : Totals) → t ≡ takenBack (st .totals)
+      → leftOf outcome.Done (withTotals st t) false false closed.Nothing ≡ grantedOf st x d
   unfolding grantedOf
   left-undo e t et = simp (e, et)
 
@@ -181,11 +204,13 @@ module _ (st : State) (x : Weights) (d : Request) where
   unfolding grantedOf
   left-net e = simp e
 
-  pub left-close : d ≡ request.DayClose → (b : Book) → b ≡ closedOf (st .book) → leftOf outcome.Done (withBook st b) false false (closed.Day (st .book)) ≡ grantedOf st x d
+  pub left-close : d ≡ request.DayClose → (b : Book) → b ≡ closedOf (st .book)
+      → leftOf outcome.Done (withBook st b) false false (closed.Day (st .book)) ≡ grantedOf st x d
   unfolding grantedOf
   left-close e b eb = simp (e, eb)
 
-  pub left-discharge : d ≡ request.Discharge → (q : Sequence) → q ≡ dischargeSequence (st .sequence) → leftOf outcome.Done (withSequence st q) true false closed.Nothing ≡ grantedOf st x d
+  pub left-discharge : d ≡ request.Discharge → (q : Sequence) → q ≡ dischargeSequence (st .sequence)
+      → leftOf outcome.Done (withSequence st q) true false closed.Nothing ≡ grantedOf st x d
   unfolding grantedOf
   left-discharge e q eq = simp (e, eq)
 
@@ -218,7 +243,9 @@ module _ {s : Settings} {st : State} {i : Input} {raw : Raw} {q : Stability} {b 
   unfolding settledOf decidedOf rulingOf enteredOf weightsOf
   left-settled =
       (λ j. let g = p .left j in leftOf o (g .state) (g .held) (g .keyed) (g .closed))
-      ∙ ap (λ (r : Request). let g = grantedOf (partsOf st b q (st .weighing)) x r in leftOf o (g .state) (g .held) (g .keyed) (g .closed)) (p .done)
+      ∙ ap (λ (r : Request).
+      let g = grantedOf (partsOf st b q (st .weighing)) x r in
+      leftOf o (g .state) (g .held) (g .keyed) (g .closed)) (p .done)
       ∙ granted-left (partsOf st b q (st .weighing)) x o (i .request)
       ∙ simp (p .ruled, p .weighed, p .booked, p .steadied, p .raws)
 
@@ -242,7 +269,8 @@ module _ {s : Settings} {st : State} {i : Input} {raw : Raw} {q : Stability} {b 
       → _≡_ {A = Ticked} (record { state = r; answer = a }) (tickOf s st i)
   unfolding tickOf
   asked-tick r a er ea =
-      let last : r .panel ≡ st′ .panel = ap (λ (t : State). t .panel) er ∙ next-panel s st i ∙ ap (λ (t : Settled). t .state .panel) (sym left-settled) in
+      let left = ap (λ (t : Settled). t .state .panel) (sym left-settled) in
+      let last : r .panel ≡ st′ .panel = ap (λ (t : State). t .panel) er ∙ next-panel s st i ∙ left in
       let same = shown s (leftOf o st′ held keyed day) x′ r last in
       λ j. record {
         state = er j;

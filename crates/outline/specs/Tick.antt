@@ -82,7 +82,8 @@ finishedOf s st x a =
 
 -- "6. Sequence."
 unfoldable pub steppedOf : Settings → State → Weights → State
-steppedOf s st x = finishedOf s st x (advanceOf (s .batching) (st .setpoints) (st .sequence) (factsOf (s .batching .mode) (st .setpoints) x))
+steppedOf s st x =
+    finishedOf s st x (advanceOf (s .batching) (st .setpoints) (st .sequence) (factsOf (s .batching .mode) (st .setpoints) x))
 
 -- steps 5 and 6; "Step 6 is passed over in a tick with an accepted start, or a stop.", and with an accepted discharge
 unfoldable pub endedOf : Settings → Settled → Weights → State

@@ -30,7 +30,8 @@ bookedTotals t v = cond (bookable t v) (grownOf t v) t
 
 -- "and the error is 10 (house)."
 unfoldable pub bookedSequence : Totals → ℤ → Sequence → Sequence
-bookedSequence t v q = cond (bookable t v) q (record { stage = q .stage; clock = q .clock; error = error.NotBooked; judgement = q .judgement })
+bookedSequence t v q =
+    cond (bookable t v) q (record { stage = q .stage; clock = q .clock; error = error.NotBooked; judgement = q .judgement })
 
 -- "nothing to take back"
 abbrev pub noneBack : Batch → Bool

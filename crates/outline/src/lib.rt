@@ -16,8 +16,11 @@ ghost use Rattle.outline.specs.DischargeFigures.{Discharged, Requested};
 ghost use Rattle.outline.specs.RefillFigures.{Refills};
 ghost use Rattle.outline.specs.Owed.{OpeningLaw, RawLaw, SetpointLaw, TimedLaw};
 ghost use Rattle.outline.specs.AnalogOwed.{ScaleLaw, AnalogLaws};
-ghost use Rattle.outline.specs.EveryLine.{ReplyBounded, BytesStay, AnsweredInOrder, RefusedLines, ReadBackOnLine, GatesShutOnLine, TicketOnLine, NeverTogetherOnLine};
-ghost use Rattle.outline.specs.StaysTrue.{Balance, SumsOfHistory, NothingElse, ZeroInForce, TotalOfBatches, GatesShut, InRange, Refusals, ReadBack, Ticket, BlocksAreRuns, LinesAreRuns, LogsAreRuns, NeverTogether, DischargeIsNoBatch, FromRange};
+ghost use Rattle.outline.specs.EveryLine.{ReplyBounded, BytesStay, AnsweredInOrder, RefusedLines, ReadBackOnLine, GatesShutOnLine};
+ghost use Rattle.outline.specs.EveryLine.{TicketOnLine, NeverTogetherOnLine};
+ghost use Rattle.outline.specs.StaysTrue.{Balance, SumsOfHistory, NothingElse, ZeroInForce, TotalOfBatches, GatesShut, InRange};
+ghost use Rattle.outline.specs.StaysTrue.{Refusals, ReadBack, Ticket, BlocksAreRuns, LinesAreRuns, LogsAreRuns, NeverTogether};
+ghost use Rattle.outline.specs.StaysTrue.{DischargeIsNoBatch, FromRange};
 
 // The figures of the outline and the laws that the definitions owe. It does nothing: it stands here so that the check's list names
 // them, and misses them if a proof goes.

@@ -1,5 +1,5 @@
-// Numbers at a place of a buffer: read and written big-endian, signed ones in two's complement, a flag as a byte that is 0 or 1. A byte past
-// the end reads as 0 and is not written, so that nothing is asked of a caller.
+// Numbers at a place of a buffer: read and written big-endian, signed ones in two's complement, a flag as a byte that is 0 or 1. A byte
+// past the end reads as 0 and is not written, so that nothing is asked of a caller.
 ghost use mathlib.Core.Path.{_≡_};
 ghost use lib.ListN.{length, getD, set, replicate};
 ghost use mir.Syntax.{w32, w64};

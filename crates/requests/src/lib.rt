@@ -27,7 +27,8 @@ fn good_ruling(x: Weights, after: Outcome) -> Outcome
 
 // Rows 1 and 2.
 fn fit_ruling(x: Weights, rest: Outcome) -> Outcome
-    ensures { λ r. ⌜ r ≡ cond (row1 x .applies) (Outcome.Refused (row1 x .number)) (cond (row2 x .applies) (Outcome.Refused (row2 x .number)) rest) ⌝ }
+    ensures { λ r.
+        ⌜ r ≡ cond (row1 x .applies) (Outcome.Refused (row1 x .number)) (cond (row2 x .applies) (Outcome.Refused (row2 x .number)) rest) ⌝ }
 {
     if !x.good {
         return Outcome::Refused(Refusal::BadTick);

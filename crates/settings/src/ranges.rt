@@ -1,7 +1,8 @@
 // The ranges of the settings: a function for each row of the outline's table and one for a discharge's, asked of any numbers at all.
 // Tests are joined by `&`, which asks them all: each can be asked of any number, and the check has one way through.
 ghost use mathlib.Core.Path.{_≡_};
-ghost use Rattle.outline.specs.Settings.{fromTo, within, countsFit, capacityFits, divisionFits, zeroRangeFits, trackingFits, stabilityFits, modeFits, delaysFit, flowFits, addressFits, analogFits, dischargeFits, settingsFit};
+ghost use Rattle.outline.specs.Settings.{fromTo, within, countsFit, capacityFits, divisionFits, zeroRangeFits, trackingFits, stabilityFits};
+ghost use Rattle.outline.specs.Settings.{modeFits, delaysFit, flowFits, addressFits, analogFits, dischargeFits, settingsFit};
 use types::settings::Given;
 
 const COUNT_LIMIT: u32 = 2_000_000;
