@@ -6,8 +6,10 @@ ghost use mathlib.Core.Path.{_≡_};
 ghost use Rattle.types.specs.declared.machine.State.{State};
 ghost use Rattle.outline.specs.Weight.{rawOf};
 ghost use Rattle.outline.specs.DayBook.{closedOf};
-ghost use Rattle.outline.specs.Parts.{withBook, withDisplay, withWeighing, pickState};
-ghost use Rattle.outline.specs.Zero.{trackedOf};
+ghost use Rattle.outline.specs.Parts.{withBook, withDisplay, withWeighing, withSequence, withTotals, pickState};
+ghost use Rattle.outline.specs.Stages.{stopSequence, dischargeSequence};
+ghost use Rattle.outline.specs.Totals.{takenBack};
+ghost use Rattle.outline.specs.Zero.{zeroedOf, taredOf, trackedOf};
 ghost use Rattle.outline.specs.Requests.{idleNow, rulingOf, grantedOf};
 ghost use Rattle.outline.specs.Steps.{answeredOf};
 ghost use Rattle.outline.specs.Tick.{enteredOf, weightsOf, steppedOf, readingOf, outputsOf};
@@ -145,7 +147,46 @@ pub(crate) fn reply(
     replies::write_reply(reply, s.address, due)
 }
 
-// 4. What is done of the request, d: it changes one part of the state. A day that it closes goes into the answer.
+// The zero is keyed at this raw.
+fn key_zero(raw: i32, state: &mut [u8])
+    ensures { λ _. ⌜ Turns (now (state .entry)) (now (state .exit)) (λ (st : State). withWeighing st (zeroedOf (st .weighing) raw)) ⌝ }
+{
+    let weighing = weighing_at(state);
+    put_weighing(state, zero::zeroed(weighing, raw));
+}
+
+// A tare takes the gross, a tare clear takes 0.
+fn put_tare(tare: i32, state: &mut [u8])
+    ensures { λ _. ⌜ Turns (now (state .entry)) (now (state .exit)) (λ (st : State). withWeighing st (taredOf (st .weighing) tare)) ⌝ }
+{
+    let weighing = weighing_at(state);
+    put_weighing(state, zero::tared(weighing, tare));
+}
+
+fn stop(state: &mut [u8])
+    ensures { λ _. ⌜ Turns (now (state .entry)) (now (state .exit)) (λ (st : State). withSequence st (stopSequence (st .sequence))) ⌝ }
+{
+    let sequence = sequence_at(state);
+    put_sequence(state, batch::sequence::stop_sequence(sequence));
+}
+
+fn discharge(state: &mut [u8])
+    ensures { λ _. ⌜ Turns (now (state .entry)) (now (state .exit)) (λ (st : State). withSequence st (dischargeSequence (st .sequence))) ⌝ }
+{
+    let sequence = sequence_at(state);
+    put_sequence(state, batch::sequence::discharge_sequence(sequence));
+}
+
+// The batch that was booked last goes out of the totals again.
+fn take_back(state: &mut [u8])
+    ensures { λ _. ⌜ Turns (now (state .entry)) (now (state .exit)) (λ (st : State). withTotals st (takenBack (st .totals))) ⌝ }
+{
+    let totals = totals_at(state);
+    put_totals(state, totals::take_back(totals));
+}
+
+// 4. What is done of the request, d: it changes one part of the state. A day that it closes goes into the answer. What reads a part before it writes
+// it is a function of its own above: a proof grows with the steps of a function times its locals.
 pub(crate) fn settle(d: Request, x: Weights, state: &mut [u8], answer: &mut [u8])
     ensures state { λ _. ⌜ Turns (now (state .entry)) (now (state .exit)) (λ (st : State). grantedOf st x d .state) ⌝ }
     ensures day { λ _. ⌜ Tells (now (state .entry)) (λ (st : State). now (answer .exit) ≡ closedPut (grantedOf st x d .closed) (now (answer .entry))) ⌝ }
@@ -153,57 +194,18 @@ pub(crate) fn settle(d: Request, x: Weights, state: &mut [u8], answer: &mut [u8]
     put_none(answer);
     match d {
         Request::Nothing => return,
-        Request::Zero => {
-            let w = weighing_at(state);
-            put_weighing(state, zero::zeroed(w, x.raw));
-            return;
-        }
-        Request::Tare => {
-            let w = weighing_at(state);
-            put_weighing(state, zero::tared(w, x.gross));
-            return;
-        }
-        Request::TareClear => {
-            let w = weighing_at(state);
-            put_weighing(state, zero::tared(w, 0));
-            return;
-        }
-        Request::Start => {
-            put_sequence(state, batch::sequence::start_sequence());
-            return;
-        }
-        Request::Stop => {
-            let q = sequence_at(state);
-            put_sequence(state, batch::sequence::stop_sequence(q));
-            return;
-        }
-        Request::Set(p) => {
-            put_setpoints(state, p);
-            return;
-        }
-        Request::TotalClear => {
-            put_totals(state, totals::clear_totals());
-            return;
-        }
-        Request::Undo => {
-            let t = totals_at(state);
-            put_totals(state, totals::take_back(t));
-            return;
-        }
-        Request::ShowGross => {
-            show(Display::Gross, state);
-            return;
-        }
-        Request::ShowNet => {
-            show(Display::Net, state);
-            return;
-        }
+        Request::Zero => return key_zero(x.raw, state),
+        Request::Tare => return put_tare(x.gross, state),
+        Request::TareClear => return put_tare(0, state),
+        Request::Start => return put_sequence(state, batch::sequence::start_sequence()),
+        Request::Stop => return stop(state),
+        Request::Set(p) => return put_setpoints(state, p),
+        Request::TotalClear => return put_totals(state, totals::clear_totals()),
+        Request::Undo => return take_back(state),
+        Request::ShowGross => return show(Display::Gross, state),
+        Request::ShowNet => return show(Display::Net, state),
         Request::DayClose => return close(state, answer),
-        Request::Discharge => {
-            let q = sequence_at(state);
-            put_sequence(state, batch::sequence::discharge_sequence(q));
-            return;
-        }
+        Request::Discharge => return discharge(state),
     }
 }
 

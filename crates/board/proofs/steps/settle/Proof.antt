@@ -2,7 +2,6 @@
 use mathlib.Core.Path.{refl, ap, _∙_}
 use mathlib.Core.List.{List}
 use Prim.Native.Nat.{ℕ}
-use lib.IntN.{pos}
 use mir.Syntax.{w32}
 use mir.Val.{SFits}
 use mir.Facts.{toZ-ofZ}
@@ -10,12 +9,9 @@ use Rattle.whole.specs.Machine.{sfits-of}
 use Rattle.types.specs.declared.daybook.Closed.the-variants as closed
 use Rattle.types.specs.declared.machine.State.{State}
 use Rattle.types.specs.declared.machine.Settled.{Settled}
-use Rattle.outline.specs.Zero.{zeroedOf, taredOf}
-use Rattle.outline.specs.Stages.{stopSequence, dischargeSequence}
-use Rattle.outline.specs.Totals.{takenBack}
 use Rattle.outline.specs.Steps.{left-nothing, left-zero, left-tare, left-tare-clear, left-start, left-stop, left-set, left-total-clear, left-undo, left-gross, left-net, left-close, left-discharge}
 use Rattle.board.specs.InPlace.{closedPut}
-use Rattle.board.proofs.Held.{read-part, held-as}
+use Rattle.board.proofs.Held.{held-as}
 use Rattle.board.proofs.InTwo.{over-none}
 use borrow.Author.Needs.{needs}
 use Rattle.board.proofs.steps.settle.Statement.{statement}
@@ -46,22 +42,17 @@ same-length c = search needs
 returns : tie.Need-returns
 returns c =
     let start = c .before .before .before .before .before .before .before .before in
+    let told = c .enum-told .given .1 in
     let x = start .args .x in (
-      (λ st h. held-as (ap leaving (left-nothing st x _ (c .enum-told .given .1))) (h)),
-      (λ st h. c .before .before .before .before .put-none .ensures ∙ ap (closing (start .args .answer .now)) (left-nothing st x _ (c .enum-told .given .1))),
+      (λ st h. held-as (ap leaving (left-nothing st x _ told)) h),
+      (λ st h. c .before .before .before .before .put-none .ensures ∙ ap (closing (start .args .answer .now)) (left-nothing st x _ told)),
     )
 
 enum-told-2 : tie.Need-enum-told-2
 enum-told-2 c = search needs
 
-weighing-at-requires : tie.Need-weighing-at-requires
-weighing-at-requires c κs = search needs
-
-zeroed-requires : tie.Need-zeroed-requires
-zeroed-requires c κs = search needs
-
-put-weighing-requires : tie.Need-put-weighing-requires
-put-weighing-requires c κs = search needs
+key-zero-requires : tie.Need-key-zero-requires
+key-zero-requires c κs = search needs
 
 same-length-2 : tie.Need-same-length-2
 same-length-2 c = search needs
@@ -71,23 +62,18 @@ same-length-3 c = search needs
 
 returns-2 : tie.Need-returns-2
 returns-2 c =
-    let start = c .before .before .before .before .before .before .before .before .before .before .before .before .before .before .before .before in
+    let start = c .before .before .before .before .before .before .before .before .before .before .before .before .before in
+    let told = c .before .before .before .before .before .enum-told2 .given .1 in
     let x = start .args .x in (
-      (λ st h. held-as (ap leaving (left-zero st x _ (c .before .before .before .before .before .before .before .before .enum-told2 .given .1) _ (simp (toZ-ofZ (raw start)) at (c .before .before .before .zeroed .ensures) ∙ (λ i. zeroedOf (read-part (λ (t : State). t .weighing) (c .before .before .before .before .before .before .weighing-at .ensures) h i) (x .raw))))) (c .before .before .put-weighing .ensures st h)),
-      (λ st h. c .before .before .before .before .before .before .before .before .before .before .before .before .put-none .ensures ∙ ap (closing (start .args .answer .now)) (left-zero st x _ (c .before .before .before .before .before .before .before .before .enum-told2 .given .1) _ (simp (toZ-ofZ (raw start)) at (c .before .before .before .zeroed .ensures) ∙ (λ i. zeroedOf (read-part (λ (t : State). t .weighing) (c .before .before .before .before .before .before .weighing-at .ensures) h i) (x .raw))))),
+      (λ st h. held-as (ap leaving (left-zero st x _ told _ refl)) (simp (toZ-ofZ (raw start)) at (c .before .before .key-zero .ensures st h))),
+      (λ st h. c .before .before .before .before .before .before .before .before .before .put-none .ensures ∙ ap (closing (start .args .answer .now)) (left-zero st x _ told _ refl)),
     )
 
 enum-told-3 : tie.Need-enum-told-3
 enum-told-3 c = search needs
 
-weighing-at-requires-2 : tie.Need-weighing-at-requires-2
-weighing-at-requires-2 c κs = search needs
-
-tared-requires : tie.Need-tared-requires
-tared-requires c κs = search needs
-
-put-weighing-requires-2 : tie.Need-put-weighing-requires-2
-put-weighing-requires-2 c κs = search needs
+put-tare-requires : tie.Need-put-tare-requires
+put-tare-requires c κs = search needs
 
 same-length-4 : tie.Need-same-length-4
 same-length-4 c = search needs
@@ -97,23 +83,18 @@ same-length-5 c = search needs
 
 returns-3 : tie.Need-returns-3
 returns-3 c =
-    let start = c .before .before .before .before .before .before .before .before .before .before .before .before .before .before .before .before in
+    let start = c .before .before .before .before .before .before .before .before .before .before .before .before .before in
+    let told = c .before .before .before .before .before .enum-told3 .given .1 in
     let x = start .args .x in (
-      (λ st h. held-as (ap leaving (left-tare st x _ (c .before .before .before .before .before .before .before .before .enum-told3 .given .1) _ (simp (toZ-ofZ (gross start)) at (c .before .before .before .tared .ensures) ∙ (λ i. taredOf (read-part (λ (t : State). t .weighing) (c .before .before .before .before .before .before .weighing-at2 .ensures) h i) (x .gross))))) (c .before .before .put-weighing2 .ensures st h)),
-      (λ st h. c .before .before .before .before .before .before .before .before .before .before .before .before .put-none .ensures ∙ ap (closing (start .args .answer .now)) (left-tare st x _ (c .before .before .before .before .before .before .before .before .enum-told3 .given .1) _ (simp (toZ-ofZ (gross start)) at (c .before .before .before .tared .ensures) ∙ (λ i. taredOf (read-part (λ (t : State). t .weighing) (c .before .before .before .before .before .before .weighing-at2 .ensures) h i) (x .gross))))),
+      (λ st h. held-as (ap leaving (left-tare st x _ told _ refl)) (simp (toZ-ofZ (gross start)) at (c .before .before .put-tare .ensures st h))),
+      (λ st h. c .before .before .before .before .before .before .before .before .before .put-none .ensures ∙ ap (closing (start .args .answer .now)) (left-tare st x _ told _ refl)),
     )
 
 enum-told-4 : tie.Need-enum-told-4
 enum-told-4 c = search needs
 
-weighing-at-requires-3 : tie.Need-weighing-at-requires-3
-weighing-at-requires-3 c κs = search needs
-
-tared-requires-2 : tie.Need-tared-requires-2
-tared-requires-2 c κs = search needs
-
-put-weighing-requires-3 : tie.Need-put-weighing-requires-3
-put-weighing-requires-3 c κs = search needs
+put-tare-requires-2 : tie.Need-put-tare-requires-2
+put-tare-requires-2 c κs = search needs
 
 same-length-6 : tie.Need-same-length-6
 same-length-6 c = search needs
@@ -123,10 +104,11 @@ same-length-7 c = search needs
 
 returns-4 : tie.Need-returns-4
 returns-4 c =
-    let start = c .before .before .before .before .before .before .before .before .before .before .before .before .before .before .before in
+    let start = c .before .before .before .before .before .before .before .before .before .before .before .before in
+    let told = c .before .before .before .before .enum-told4 .given .1 in
     let x = start .args .x in (
-      (λ st h. held-as (ap leaving (left-tare-clear st x _ (c .before .before .before .before .before .before .before .enum-told4 .given .1) _ (c .before .before .before .tared2 .ensures ∙ (λ i. taredOf (read-part (λ (t : State). t .weighing) (c .before .before .before .before .before .weighing-at3 .ensures) h i) (pos 0))))) (c .before .before .put-weighing3 .ensures st h)),
-      (λ st h. c .before .before .before .before .before .before .before .before .before .before .before .put-none .ensures ∙ ap (closing (start .args .answer .now)) (left-tare-clear st x _ (c .before .before .before .before .before .before .before .enum-told4 .given .1) _ (c .before .before .before .tared2 .ensures ∙ (λ i. taredOf (read-part (λ (t : State). t .weighing) (c .before .before .before .before .before .weighing-at3 .ensures) h i) (pos 0))))),
+      (λ st h. held-as (ap leaving (left-tare-clear st x _ told _ refl)) (c .before .before .put-tare2 .ensures st h)),
+      (λ st h. c .before .before .before .before .before .before .before .before .put-none .ensures ∙ ap (closing (start .args .answer .now)) (left-tare-clear st x _ told _ refl)),
     )
 
 enum-told-5 : tie.Need-enum-told-5
@@ -147,22 +129,17 @@ same-length-9 c = search needs
 returns-5 : tie.Need-returns-5
 returns-5 c =
     let start = c .before .before .before .before .before .before .before .before .before .before .before .before .before in
+    let told = c .before .before .before .before .before .enum-told5 .given .1 in
     let x = start .args .x in (
-      (λ st h. held-as (ap leaving (left-start st x _ (c .before .before .before .before .before .enum-told5 .given .1) _ (c .before .before .before .start-sequence .ensures))) (c .before .before .put-sequence .ensures st h)),
-      (λ st h. c .before .before .before .before .before .before .before .before .before .put-none .ensures ∙ ap (closing (start .args .answer .now)) (left-start st x _ (c .before .before .before .before .before .enum-told5 .given .1) _ (c .before .before .before .start-sequence .ensures))),
+      (λ st h. held-as (ap leaving (left-start st x _ told _ (c .before .before .before .start-sequence .ensures))) (c .before .before .put-sequence .ensures st h)),
+      (λ st h. c .before .before .before .before .before .before .before .before .before .put-none .ensures ∙ ap (closing (start .args .answer .now)) (left-start st x _ told _ (c .before .before .before .start-sequence .ensures))),
     )
 
 enum-told-6 : tie.Need-enum-told-6
 enum-told-6 c = search needs
 
-sequence-at-requires : tie.Need-sequence-at-requires
-sequence-at-requires c κs = search needs
-
-stop-sequence-requires : tie.Need-stop-sequence-requires
-stop-sequence-requires c κs = search needs
-
-put-sequence-requires-2 : tie.Need-put-sequence-requires-2
-put-sequence-requires-2 c κs = search needs
+stop-requires : tie.Need-stop-requires
+stop-requires c κs = search needs
 
 same-length-10 : tie.Need-same-length-10
 same-length-10 c = search needs
@@ -172,10 +149,11 @@ same-length-11 c = search needs
 
 returns-6 : tie.Need-returns-6
 returns-6 c =
-    let start = c .before .before .before .before .before .before .before .before .before .before .before .before .before .before .before in
+    let start = c .before .before .before .before .before .before .before .before .before .before .before .before in
+    let told = c .before .before .before .before .enum-told6 .given .1 in
     let x = start .args .x in (
-      (λ st h. held-as (ap leaving (left-stop st x _ (c .before .before .before .before .before .before .before .enum-told6 .given .1) _ (c .before .before .before .stop-sequence .ensures ∙ (λ i. stopSequence (read-part (λ (t : State). t .sequence) (c .before .before .before .before .before .sequence-at .ensures) h i))))) (c .before .before .put-sequence2 .ensures st h)),
-      (λ st h. c .before .before .before .before .before .before .before .before .before .before .before .put-none .ensures ∙ ap (closing (start .args .answer .now)) (left-stop st x _ (c .before .before .before .before .before .before .before .enum-told6 .given .1) _ (c .before .before .before .stop-sequence .ensures ∙ (λ i. stopSequence (read-part (λ (t : State). t .sequence) (c .before .before .before .before .before .sequence-at .ensures) h i))))),
+      (λ st h. held-as (ap leaving (left-stop st x _ told _ refl)) (c .before .before .stop .ensures st h)),
+      (λ st h. c .before .before .before .before .before .before .before .before .put-none .ensures ∙ ap (closing (start .args .answer .now)) (left-stop st x _ told _ refl)),
     )
 
 enum-known-d : tie.Need-enum-known-d
@@ -193,9 +171,10 @@ same-length-13 c = search needs
 returns-7 : tie.Need-returns-7
 returns-7 c =
     let start = c .before .before .before .before .before .before .before .before .before .before .before .before .before in
+    let told = c .before .before .before .before .before .d .given .1 in
     let x = start .args .x in (
-      (λ st h. held-as (ap leaving (left-set st x _ _ (c .before .before .before .before .before .d .given .1))) (c .before .before .put-setpoints .ensures st h)),
-      (λ st h. c .before .before .before .before .before .before .before .before .before .put-none .ensures ∙ ap (closing (start .args .answer .now)) (left-set st x _ _ (c .before .before .before .before .before .d .given .1))),
+      (λ st h. held-as (ap leaving (left-set st x _ _ told)) (c .before .before .put-setpoints .ensures st h)),
+      (λ st h. c .before .before .before .before .before .before .before .before .before .put-none .ensures ∙ ap (closing (start .args .answer .now)) (left-set st x _ _ told)),
     )
 
 enum-told-7 : tie.Need-enum-told-7
@@ -216,22 +195,17 @@ same-length-15 c = search needs
 returns-8 : tie.Need-returns-8
 returns-8 c =
     let start = c .before .before .before .before .before .before .before .before .before .before .before .before .before in
+    let told = c .before .before .before .before .before .enum-told7 .given .1 in
     let x = start .args .x in (
-      (λ st h. held-as (ap leaving (left-total-clear st x _ (c .before .before .before .before .before .enum-told7 .given .1) _ (c .before .before .before .clear-totals .ensures))) (c .before .before .put-totals .ensures st h)),
-      (λ st h. c .before .before .before .before .before .before .before .before .before .put-none .ensures ∙ ap (closing (start .args .answer .now)) (left-total-clear st x _ (c .before .before .before .before .before .enum-told7 .given .1) _ (c .before .before .before .clear-totals .ensures))),
+      (λ st h. held-as (ap leaving (left-total-clear st x _ told _ (c .before .before .before .clear-totals .ensures))) (c .before .before .put-totals .ensures st h)),
+      (λ st h. c .before .before .before .before .before .before .before .before .before .put-none .ensures ∙ ap (closing (start .args .answer .now)) (left-total-clear st x _ told _ (c .before .before .before .clear-totals .ensures))),
     )
 
 enum-told-8 : tie.Need-enum-told-8
 enum-told-8 c = search needs
 
-totals-at-requires : tie.Need-totals-at-requires
-totals-at-requires c κs = search needs
-
 take-back-requires : tie.Need-take-back-requires
 take-back-requires c κs = search needs
-
-put-totals-requires-2 : tie.Need-put-totals-requires-2
-put-totals-requires-2 c κs = search needs
 
 same-length-16 : tie.Need-same-length-16
 same-length-16 c = search needs
@@ -241,10 +215,11 @@ same-length-17 c = search needs
 
 returns-9 : tie.Need-returns-9
 returns-9 c =
-    let start = c .before .before .before .before .before .before .before .before .before .before .before .before .before .before .before in
+    let start = c .before .before .before .before .before .before .before .before .before .before .before .before in
+    let told = c .before .before .before .before .enum-told8 .given .1 in
     let x = start .args .x in (
-      (λ st h. held-as (ap leaving (left-undo st x _ (c .before .before .before .before .before .before .before .enum-told8 .given .1) _ (c .before .before .before .take-back .ensures ∙ (λ i. takenBack (read-part (λ (t : State). t .totals) (c .before .before .before .before .before .totals-at .ensures) h i))))) (c .before .before .put-totals2 .ensures st h)),
-      (λ st h. c .before .before .before .before .before .before .before .before .before .before .before .put-none .ensures ∙ ap (closing (start .args .answer .now)) (left-undo st x _ (c .before .before .before .before .before .before .before .enum-told8 .given .1) _ (c .before .before .before .take-back .ensures ∙ (λ i. takenBack (read-part (λ (t : State). t .totals) (c .before .before .before .before .before .totals-at .ensures) h i))))),
+      (λ st h. held-as (ap leaving (left-undo st x _ told _ refl)) (c .before .before .take-back .ensures st h)),
+      (λ st h. c .before .before .before .before .before .before .before .before .put-none .ensures ∙ ap (closing (start .args .answer .now)) (left-undo st x _ told _ refl)),
     )
 
 enum-told-9 : tie.Need-enum-told-9
@@ -262,9 +237,10 @@ same-length-19 c = search needs
 returns-10 : tie.Need-returns-10
 returns-10 c =
     let start = c .before .before .before .before .before .before .before .before .before .before .before .before in
+    let told = c .before .before .before .before .enum-told9 .given .1 in
     let x = start .args .x in (
-      (λ st h. held-as (ap leaving (left-gross st x _ (c .before .before .before .before .enum-told9 .given .1))) (c .before .before .show .ensures st h)),
-      (λ st h. c .before .before .before .before .before .before .before .before .put-none .ensures ∙ ap (closing (start .args .answer .now)) (left-gross st x _ (c .before .before .before .before .enum-told9 .given .1))),
+      (λ st h. held-as (ap leaving (left-gross st x _ told)) (c .before .before .show .ensures st h)),
+      (λ st h. c .before .before .before .before .before .before .before .before .put-none .ensures ∙ ap (closing (start .args .answer .now)) (left-gross st x _ told)),
     )
 
 enum-told-10 : tie.Need-enum-told-10
@@ -282,9 +258,10 @@ same-length-21 c = search needs
 returns-11 : tie.Need-returns-11
 returns-11 c =
     let start = c .before .before .before .before .before .before .before .before .before .before .before .before in
+    let told = c .before .before .before .before .enum-told10 .given .1 in
     let x = start .args .x in (
-      (λ st h. held-as (ap leaving (left-net st x _ (c .before .before .before .before .enum-told10 .given .1))) (c .before .before .show2 .ensures st h)),
-      (λ st h. c .before .before .before .before .before .before .before .before .put-none .ensures ∙ ap (closing (start .args .answer .now)) (left-net st x _ (c .before .before .before .before .enum-told10 .given .1))),
+      (λ st h. held-as (ap leaving (left-net st x _ told)) (c .before .before .show2 .ensures st h)),
+      (λ st h. c .before .before .before .before .before .before .before .before .put-none .ensures ∙ ap (closing (start .args .answer .now)) (left-net st x _ told)),
     )
 
 enum-told-11 : tie.Need-enum-told-11
@@ -302,22 +279,17 @@ same-length-23 c = search needs
 returns-12 : tie.Need-returns-12
 returns-12 c =
     let start = c .before .before .before .before .before .before .before .before .before .before .before .before .before .before .before in
+    let told = c .before .before .before .before .before .before .before .enum-told11 .given .1 in
     let x = start .args .x in (
-      (λ st h. held-as (ap leaving (left-close st x _ (c .before .before .before .before .before .before .before .enum-told11 .given .1) _ refl)) (c .before .before .before .before .close .ensures .0 st h)),
-      (λ st h. c .before .before .before .before .close .ensures .1 st h ∙ ap (closedPut (closed.Day (st .book))) (c .before .before .before .before .before .before .before .before .before .before .before .put-none .ensures) ∙ over-none closed.Nothing (closed.Day (st .book)) (start .args .answer .now) ∙ ap (closing (start .args .answer .now)) (left-close st x _ (c .before .before .before .before .before .before .before .enum-told11 .given .1) _ refl)),
+      (λ st h. held-as (ap leaving (left-close st x _ told _ refl)) (c .before .before .before .before .close .ensures .0 st h)),
+      (λ st h. c .before .before .before .before .close .ensures .1 st h ∙ ap (closedPut (closed.Day (st .book))) (c .before .before .before .before .before .before .before .before .before .before .before .put-none .ensures) ∙ over-none closed.Nothing (closed.Day (st .book)) (start .args .answer .now) ∙ ap (closing (start .args .answer .now)) (left-close st x _ told _ refl)),
     )
 
 enum-told-12 : tie.Need-enum-told-12
 enum-told-12 c = search needs
 
-sequence-at-requires-2 : tie.Need-sequence-at-requires-2
-sequence-at-requires-2 c κs = search needs
-
-discharge-sequence-requires : tie.Need-discharge-sequence-requires
-discharge-sequence-requires c κs = search needs
-
-put-sequence-requires-3 : tie.Need-put-sequence-requires-3
-put-sequence-requires-3 c κs = search needs
+discharge-requires : tie.Need-discharge-requires
+discharge-requires c κs = search needs
 
 same-length-24 : tie.Need-same-length-24
 same-length-24 c = search needs
@@ -327,10 +299,11 @@ same-length-25 c = search needs
 
 returns-13 : tie.Need-returns-13
 returns-13 c =
-    let start = c .before .before .before .before .before .before .before .before .before .before .before .before .before .before .before in
+    let start = c .before .before .before .before .before .before .before .before .before .before .before .before in
+    let told = c .before .before .before .before .enum-told12 .given .1 in
     let x = start .args .x in (
-      (λ st h. held-as (ap leaving (left-discharge st x _ (c .before .before .before .before .before .before .before .enum-told12 .given .1) _ (c .before .before .before .discharge-sequence .ensures ∙ (λ i. dischargeSequence (read-part (λ (t : State). t .sequence) (c .before .before .before .before .before .sequence-at2 .ensures) h i))))) (c .before .before .put-sequence3 .ensures st h)),
-      (λ st h. c .before .before .before .before .before .before .before .before .before .before .before .put-none .ensures ∙ ap (closing (start .args .answer .now)) (left-discharge st x _ (c .before .before .before .before .before .before .before .enum-told12 .given .1) _ (c .before .before .before .discharge-sequence .ensures ∙ (λ i. dischargeSequence (read-part (λ (t : State). t .sequence) (c .before .before .before .before .before .sequence-at2 .ensures) h i))))),
+      (λ st h. held-as (ap leaving (left-discharge st x _ told _ refl)) (c .before .before .discharge .ensures st h)),
+      (λ st h. c .before .before .before .before .before .before .before .before .put-none .ensures ∙ ap (closing (start .args .answer .now)) (left-discharge st x _ told _ refl)),
     )
 
 pub settle-spec : {M : Type 1} → statement M
@@ -342,23 +315,17 @@ settle-spec =
     same-length
     returns
     enum-told-2
-    weighing-at-requires
-    zeroed-requires
-    put-weighing-requires
+    key-zero-requires
     same-length-2
     same-length-3
     returns-2
     enum-told-3
-    weighing-at-requires-2
-    tared-requires
-    put-weighing-requires-2
+    put-tare-requires
     same-length-4
     same-length-5
     returns-3
     enum-told-4
-    weighing-at-requires-3
-    tared-requires-2
-    put-weighing-requires-3
+    put-tare-requires-2
     same-length-6
     same-length-7
     returns-4
@@ -369,9 +336,7 @@ settle-spec =
     same-length-9
     returns-5
     enum-told-6
-    sequence-at-requires
-    stop-sequence-requires
-    put-sequence-requires-2
+    stop-requires
     same-length-10
     same-length-11
     returns-6
@@ -387,9 +352,7 @@ settle-spec =
     same-length-15
     returns-8
     enum-told-8
-    totals-at-requires
     take-back-requires
-    put-totals-requires-2
     same-length-16
     same-length-17
     returns-9
@@ -409,9 +372,7 @@ settle-spec =
     same-length-23
     returns-12
     enum-told-12
-    sequence-at-requires-2
-    discharge-sequence-requires
-    put-sequence-requires-3
+    discharge-requires
     same-length-24
     same-length-25
     returns-13)
