@@ -8,14 +8,14 @@ ghost use Rattle.outline.specs.Weight.{rawOf};
 ghost use Rattle.outline.specs.DayBook.{closedOf};
 ghost use Rattle.outline.specs.Parts.{withBook, withDisplay, withWeighing, withSequence, withTotals, pickState};
 ghost use Rattle.outline.specs.Stages.{stopSequence, dischargeSequence};
-ghost use Rattle.outline.specs.Totals.{takenBack};
+ghost use Rattle.outline.specs.Totals.{bookedTotals, bookedSequence, takenBack};
 ghost use Rattle.outline.specs.Zero.{zeroedOf, taredOf, trackedOf};
 ghost use Rattle.outline.specs.Requests.{idleNow, rulingOf, grantedOf};
 ghost use Rattle.outline.specs.Steps.{answeredOf};
 ghost use Rattle.outline.specs.Tick.{enteredOf, weightsOf, steppedOf, readingOf, outputsOf};
 ghost use Rattle.outline.specs.Replies.{replyText, replyDue, writtenOf};
 ghost use Rattle.replies.specs.Wrote.{wroteOf};
-ghost use Rattle.images.specs.Holds.{Turns, Tells};
+ghost use Rattle.images.specs.Holds.{Holds, Turns, Tells};
 ghost use Rattle.board.specs.InPlace.{rawIn, heldBy, keyedBy, closedPut, outputsPut};
 use crate::answer::put_day;
 use crate::answer::put_none;
@@ -41,6 +41,7 @@ use types::machine::State;
 use types::requests::Outcome;
 use types::requests::Request;
 use types::settings::Settings;
+use types::stages::Sequence;
 use types::weight::Display;
 use types::weight::Panel;
 use types::weight::Raw;
@@ -242,6 +243,31 @@ pub(crate) fn track(s: Settings, keyed: bool, x: Weights, state: &mut [u8])
     put_weighing(state, zero::tracking::tracked(s, idle, keyed, x, weighing));
 }
 
+// A finished batch of v is booked: the sequence that it leaves, and the totals. Both are of the totals as they were.
+fn book_batch(v: i64, after: Sequence, state: &mut [u8])
+    ensures { λ _. ⌜ Turns (now (state .entry)) (now (state .exit)) (λ (st : State). withTotals (withSequence st (bookedSequence (st .totals) v after)) (bookedTotals (st .totals) v)) ⌝ }
+{
+    let totals = totals_at(state);
+    put_sequence(state, totals::booked_sequence(totals, v, after));
+    put_totals(state, totals::booked_totals(totals, v));
+}
+
+// Step 6 of the sequence that the buffer holds, which its caller has read already.
+fn go_on(s: Settings, sequence: Sequence, x: Weights, state: &mut [u8])
+    ensures { λ _. ⌜ Tells (now (state .entry)) (λ (st : State). sequence ≡ st .sequence → Holds (now (state .exit)) (steppedOf s st x)) ⌝ }
+{
+    let batching = s.batching;
+    let mode = batching.mode;
+    let v = batch::comparison::compared(mode, x);
+    let fit = weight::is_fit(x);
+    let setpoints = setpoints_at(state);
+    let a = batch::advance(s.batching, setpoints, sequence, !fit, v, x.stable, x.gross);
+    if a.finished {
+        return book_batch(v, a.sequence, state);
+    }
+    put_sequence(state, a.sequence);
+}
+
 // 6. Sequence, passed over where step 4 says so. In stage 00 it has nothing to do.
 pub(crate) fn step(s: Settings, held: bool, x: Weights, state: &mut [u8])
     ensures { λ _. ⌜ Turns (now (state .entry)) (now (state .exit)) (λ (st : State). pickState held st (steppedOf s st x)) ⌝ }
@@ -254,21 +280,7 @@ pub(crate) fn step(s: Settings, held: bool, x: Weights, state: &mut [u8])
     if batch::sequence::is_idle(stage) {
         return;
     }
-    let batching = s.batching;
-    let mode = batching.mode;
-    let v = batch::comparison::compared(mode, x);
-    let fit = weight::is_fit(x);
-    let setpoints = setpoints_at(state);
-    let a = batch::advance(s.batching, setpoints, sequence, !fit, v, x.stable, x.gross);
-    let after = a.sequence;
-    if !a.finished {
-        put_sequence(state, after);
-        return;
-    }
-    let t = totals_at(state);
-    let booked = totals::booked_sequence(t, v, after);
-    put_sequence(state, booked);
-    put_totals(state, totals::booked_totals(t, v));
+    go_on(s, sequence, x, state);
 }
 
 // Every output, of the state after step 6: of it they ask for the panel, the setpoints and the sequence. A closed day stands in the answer already.
