@@ -1,5 +1,11 @@
 -- What was worked by hand of a discharge holds: each figure is computed through the definitions. Assumes nothing.
-use mathlib.Core.Path.{refl}
+use mathlib.Core.Path.{_≡_, refl}
+use mathlib.Core.List.{[], _∷_}
+use lib.IntN.{pos}
+use Rattle.types.specs.declared.requests.Request.the-variants as request
+use Rattle.types.specs.declared.stages.Stage.the-variants as stage
+use Rattle.types.specs.declared.stages.Judgement.the-variants as judgement
+use Rattle.types.specs.declared.stages.SequenceError.the-variants as error
 use Rattle.whole.specs.Nearest.{nearestN, nearestOf}
 use Rattle.whole.specs.Limit.{limitTo}
 use Rattle.outline.specs.Settings.{countsFit, capacityFits, divisionFits, zeroRangeFits, trackingFits, stabilityFits, modeFits, delaysFit, flowFits, addressFits, analogFits, dischargeFits, settingsFit, settingsOf, openOf}
@@ -13,7 +19,24 @@ use Rattle.outline.specs.Requests.{rulingOf, grantedOf, decidedOf}
 use Rattle.outline.specs.Tick.{openState, enteredOf, weightsOf, settledOf, servedOf, withTracking, finishedOf, steppedOf, endedOf, nextOf, outputsOf, tickOf}
 use Rattle.outline.specs.Lines.{lineEndOf, lineOf, kindOf, prefixLength, isPrefixed, lettersOf, fieldOf, fieldsOf, decodeOf, bodyOf, spokenOf, commandOf}
 use Rattle.outline.specs.Replies.{digitsOf, weightText, totalText, pointsText, refusedText, framed, replyText, requestOf, shownOf, replyDue, toldOf, dueText, lineTickOf, writtenOf, replyBuffer}
-use Rattle.outline.specs.DischargeFigures.{Discharged, Requested}
+use Rattle.outline.specs.Parts.{withSequence}
+use Rattle.outline.specs.Worked.{leg, shut, emptying}
+use Rattle.outline.specs.DischargeFigures.{settingsOut, before, courseFrom, drained, Discharged, Requested}
+
+-- `stoppedBatch` written out: under its name its ticks are computed many times over
+stopped :
+    courseFrom (settingsOut 0 0 6000)
+    (withSequence before (record { stage = stage.SmallDisable 0; clock = 0; error = error.None; judgement = judgement.None }))
+    (leg 1 (pos 0) request.Stop ∷ drained 1 2)
+    ≡ record {
+      stages = 0 ∷ 14 ∷ 15 ∷ 16 ∷ 0 ∷ [];
+      gates = shut ∷ shut ∷ emptying ∷ emptying ∷ shut ∷ [];
+      clocks = 0 ∷ 0 ∷ 0 ∷ 1 ∷ 0 ∷ [];
+      errors = 4 ∷ 0 ∷ 0 ∷ 0 ∷ 0 ∷ [];
+      after = 0 ∷ 0 ∷ 0 ∷ 10 ∷ 1 ∷ [];
+    }
+unfolding nearestN nearestOf limitTo settingsOf rawOf weighOf steadiedOf limitOf bookedOf laterGood bookOf closedOf trackedOf setpointsFit factsOf waitOf firstFlow afterStart judgedOf moveOf stopSequence landOf advanceOf gatesOf bookedTotals bookedSequence takenBack rulingOf grantedOf decidedOf openState enteredOf weightsOf settledOf servedOf withTracking finishedOf steppedOf endedOf nextOf outputsOf tickOf
+stopped = refl
 
 pub discharged : Discharged
 unfolding nearestN nearestOf limitTo settingsOf rawOf weighOf steadiedOf limitOf bookedOf laterGood bookOf closedOf trackedOf setpointsFit factsOf waitOf firstFlow afterStart judgedOf moveOf stopSequence landOf advanceOf gatesOf bookedTotals bookedSequence takenBack rulingOf grantedOf decidedOf openState enteredOf weightsOf settledOf servedOf withTracking finishedOf steppedOf endedOf nextOf outputsOf tickOf
@@ -60,7 +83,7 @@ discharged = record {
   then-nothing = refl;
   then-undo = refl;
   then-start = refl;
-  stopped-batch = refl;
+  stopped-batch = stopped;
   day = refl;
   tracking = refl;
 }

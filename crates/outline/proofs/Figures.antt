@@ -1,5 +1,5 @@
 -- The figures hold: each is computed, runs of some hundred ticks among them. Assumes nothing.
-use mathlib.Core.Path.{refl}
+use mathlib.Core.Path.{refl, ap}
 use lib.Ieee.{ofInt, sub, mul, div, add, lt}
 use Rattle.whole.specs.Nearest.{nearestN, nearestOf}
 use Rattle.whole.specs.Limit.{limitTo}
@@ -14,6 +14,7 @@ use Rattle.outline.specs.Requests.{rulingOf, grantedOf, decidedOf}
 use Rattle.outline.specs.Analog.{betweenOf, clipOf, analogOf}
 use Rattle.outline.specs.Tick.{openState, enteredOf, weightsOf, settledOf, servedOf, withTracking, finishedOf, steppedOf, endedOf, nextOf, outputsOf, tickOf, countIn}
 use Rattle.outline.specs.Figures.{Starred, Runs, Table}
+use Rattle.outline.proofs.FigureRuns.{falls, batch}
 
 pub starred : Starred
 unfolding ofInt sub mul div add lt nearestN nearestOf limitTo countsFit capacityFits divisionFits zeroRangeFits trackingFits stabilityFits modeFits delaysFit flowFits addressFits analogFits dischargeFits settingsFit settingsOf openOf rawOf weighOf steadiedOf limitOf bookedOf laterGood bookOf closedOf trackedOf setpointsFit nearOf fullOf factsOf waitOf firstFlow afterStart judgedOf moveOf stopSequence landOf advanceOf gatesOf bookedTotals bookedSequence takenBack rulingOf grantedOf decidedOf betweenOf clipOf analogOf openState enteredOf weightsOf settledOf servedOf withTracking finishedOf steppedOf endedOf nextOf outputsOf tickOf countIn
@@ -32,15 +33,20 @@ starred = record {
   zero-at-2001 = refl;
   p-at-ff = refl;
   op-without-p = refl;
-  one-batch = (refl, refl);
-  undo-once = refl;
-  undo-twice = refl;
+  one-batch = (ap (λ x. x .total) batch, ap (λ x. x .count) batch);
+  undo-once = ap (λ x. x .undo) batch;
+  undo-twice = ap (λ x. x .undo-again) batch;
   volts-at-low-end = refl;
 }
 
 pub runs : Runs
 unfolding nearestN nearestOf limitTo settingsOf rawOf weighOf steadiedOf limitOf bookedOf laterGood bookOf closedOf trackedOf nearOf fullOf factsOf advanceOf gatesOf rulingOf grantedOf decidedOf analogOf openState enteredOf weightsOf settledOf servedOf withTracking finishedOf steppedOf endedOf nextOf outputsOf tickOf countIn
-runs = record { zero-after-falls = refl; gross-after-falls = refl; used-after-falls = refl; ticket = refl }
+runs = record {
+  zero-after-falls = ap (λ x. x .zero) falls;
+  gross-after-falls = ap (λ x. x .gross) falls;
+  used-after-falls = ap (λ x. x .used) falls;
+  ticket = refl;
+}
 
 pub table : Table
 unfolding countsFit capacityFits divisionFits zeroRangeFits trackingFits stabilityFits modeFits delaysFit flowFits addressFits analogFits dischargeFits settingsFit

@@ -13,6 +13,7 @@ pub mod Floats
 pub mod AnalogEnds
 pub mod AnalogRange
 -- figures
+pub mod FigureRuns
 pub mod Figures
 pub mod Worked
 pub mod LogFigures

@@ -1,5 +1,5 @@
 -- Each line is read, and each ticket printed, as was worked by hand. Assumes nothing.
-use mathlib.Core.Path.{refl}
+use mathlib.Core.Path.{refl, ap}
 use Rattle.whole.specs.Nearest.{nearestN, nearestOf}
 use Rattle.whole.specs.Limit.{limitTo}
 use Rattle.outline.specs.Settings.{countsFit, capacityFits, divisionFits, zeroRangeFits, trackingFits, stabilityFits, modeFits, delaysFit, flowFits, addressFits, analogFits, dischargeFits, settingsFit, settingsOf, openOf}
@@ -15,6 +15,7 @@ use Rattle.outline.specs.Tick.{openState, enteredOf, weightsOf, settledO
 use Rattle.outline.specs.Log.{numberAt, logLineOf, isNone, nextLf, lineAt, lineBehind, nextLine, keptIn}
 use Rattle.outline.specs.Ticket.{decimalIn, decimalText, pairText, dayText, leftText, ticketText, refusedText}
 use Rattle.outline.specs.LogFigures.{Logs, Inputs, Tickets}
+use Rattle.outline.proofs.FigureRuns.{falls, batch}
 
 pub logs : Logs
 unfolding numberAt logLineOf isNone
@@ -65,8 +66,8 @@ pub tickets : Tickets
 unfolding nearestN nearestOf limitTo settingsOf rawOf weighOf steadiedOf limitOf bookedOf laterGood bookOf closedOf trackedOf setpointsFit nearOf fullOf factsOf waitOf firstFlow afterStart judgedOf moveOf stopSequence landOf advanceOf gatesOf bookedTotals bookedSequence takenBack rulingOf grantedOf decidedOf betweenOf clipOf analogOf openState enteredOf weightsOf settledOf servedOf withTracking finishedOf steppedOf endedOf nextOf outputsOf tickOf countIn decimalIn decimalText pairText dayText leftText ticketText refusedText
 tickets = record {
   worked = refl;
-  falls = refl;
-  one-batch = refl;
+  falls = ap (λ x. x .ticket) falls;
+  one-batch = ap (λ x. x .ticket) batch;
   none = refl;
   left = refl;
   refused = refl;
