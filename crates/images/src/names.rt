@@ -30,43 +30,21 @@ pub(crate) fn display_of(n: u8) -> Display
 pub(crate) fn stage_of(n: u8, timer: u16) -> Stage
     ensures { λ r. ⌜ r ≡ stageOf n timer ⌝ }
 {
-    if n == 3 {
-        return Stage::StartDelay(timer);
+    match n {
+        3 => return Stage::StartDelay(timer),
+        4 => return Stage::LargeDisable(timer),
+        5 => return Stage::LargeFlow,
+        6 => return Stage::MediumDisable(timer),
+        7 => return Stage::MediumFlow,
+        8 => return Stage::SmallDisable(timer),
+        9 => return Stage::SmallFlow,
+        10 => return Stage::JudgeDelay(timer),
+        11 => return Stage::JudgeWait,
+        14 => return Stage::DischargeStart(timer),
+        15 => return Stage::Discharge,
+        16 => return Stage::DischargeEnd(timer),
+        _ => return Stage::Idle,
     }
-    if n == 4 {
-        return Stage::LargeDisable(timer);
-    }
-    if n == 5 {
-        return Stage::LargeFlow;
-    }
-    if n == 6 {
-        return Stage::MediumDisable(timer);
-    }
-    if n == 7 {
-        return Stage::MediumFlow;
-    }
-    if n == 8 {
-        return Stage::SmallDisable(timer);
-    }
-    if n == 9 {
-        return Stage::SmallFlow;
-    }
-    if n == 10 {
-        return Stage::JudgeDelay(timer);
-    }
-    if n == 11 {
-        return Stage::JudgeWait;
-    }
-    if n == 14 {
-        return Stage::DischargeStart(timer);
-    }
-    if n == 15 {
-        return Stage::Discharge;
-    }
-    if n == 16 {
-        return Stage::DischargeEnd(timer);
-    }
-    Stage::Idle
 }
 
 // The ticks that a timed stage has lasted; 0 for any other.
@@ -93,46 +71,28 @@ pub(crate) fn stage_timer(stage: Stage) -> u16
 pub(crate) fn error_of(n: u8) -> SequenceError
     ensures { λ r. ⌜ r ≡ errorOf n ⌝ }
 {
-    if n == 1 {
-        return SequenceError::NoFinal;
+    match n {
+        1 => return SequenceError::NoFinal,
+        2 => return SequenceError::Reached,
+        4 => return SequenceError::Stopped,
+        6 => return SequenceError::FlowTime,
+        9 => return SequenceError::BadWeight,
+        10 => return SequenceError::NotBooked,
+        7 => return SequenceError::DischargeStopped,
+        8 => return SequenceError::DischargeTime,
+        _ => return SequenceError::None,
     }
-    if n == 2 {
-        return SequenceError::Reached;
-    }
-    if n == 4 {
-        return SequenceError::Stopped;
-    }
-    if n == 6 {
-        return SequenceError::FlowTime;
-    }
-    if n == 9 {
-        return SequenceError::BadWeight;
-    }
-    if n == 10 {
-        return SequenceError::NotBooked;
-    }
-    if n == 7 {
-        return SequenceError::DischargeStopped;
-    }
-    if n == 8 {
-        return SequenceError::DischargeTime;
-    }
-    SequenceError::None
 }
 
 pub(crate) fn judgement_of(n: u8) -> Judgement
     ensures { λ r. ⌜ r ≡ judgementOf n ⌝ }
 {
-    if n == 1 {
-        return Judgement::Ok;
+    match n {
+        1 => return Judgement::Ok,
+        2 => return Judgement::Over,
+        3 => return Judgement::Under,
+        _ => return Judgement::None,
     }
-    if n == 2 {
-        return Judgement::Over;
-    }
-    if n == 3 {
-        return Judgement::Under;
-    }
-    Judgement::None
 }
 
 // Whether a batch can be taken back, and its weight, 0 where there is none.

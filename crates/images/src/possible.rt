@@ -212,28 +212,16 @@ fn is_weighing(g: &[u8], w: Weighing) -> bool
 fn time_of(g: &[u8], n: u8) -> u32
     ensures { λ r. ⌜ r ≡ timeOf (settingsOf (givenAt (now (g .entry))) .batching) n ⌝ }
 {
-    if n == 3 {
-        return given(g, START);
+    match n {
+        3 => return given(g, START),
+        4 => return given(g, LARGE),
+        6 => return given(g, MEDIUM),
+        8 => return given(g, SMALL),
+        10 => return given(g, JUDGE),
+        14 => return given(g, DISCHARGE_START),
+        16 => return given(g, DISCHARGE_END),
+        _ => return 0,
     }
-    if n == 4 {
-        return given(g, LARGE);
-    }
-    if n == 6 {
-        return given(g, MEDIUM);
-    }
-    if n == 8 {
-        return given(g, SMALL);
-    }
-    if n == 10 {
-        return given(g, JUDGE);
-    }
-    if n == 14 {
-        return given(g, DISCHARGE_START);
-    }
-    if n == 16 {
-        return given(g, DISCHARGE_END);
-    }
-    0
 }
 
 // The most that the clock of a stage shows, by its number; 0 where none runs.
