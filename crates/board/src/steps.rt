@@ -1,7 +1,7 @@
-// A tick in the buffer of its state, in the outline's six steps. Each reads the parts of the state that it asks for from their places and writes
-// those that it makes, so that there is a state nowhere else: a tick takes little of a board's stack. A tick and a line both call each of them, so
-// that the compiler draws none into its caller: each gives its frame back before the next begins (docs/COST.md). What each promises is of the
-// state that the buffer holds.
+// A tick in the buffer of its state, in the outline's six steps. Each reads the parts of the state that it asks for from their places and
+// writes those that it makes, so that there is a state nowhere else: a tick takes little of a board's stack. A tick and a line both call
+// each of them, so that the compiler draws none into its caller: each gives its frame back before the next begins (docs/COST.md). What
+// each promises is of the state that the buffer holds.
 ghost use mathlib.Core.Path.{_≡_};
 ghost use Rattle.types.specs.declared.machine.State.{State};
 ghost use Rattle.outline.specs.Weight.{rawOf};
@@ -51,8 +51,12 @@ use types::weight::Weights;
 
 // 1. to 3.: count to raw, day book, weights. The stability's change of raw is from the last good raw as it was before this tick.
 pub(crate) fn enter(s: Settings, count: i32, contact: bool, state: &mut [u8]) -> Weights
-    ensures state { λ _. ⌜ Turns (now (state .entry)) (now (state .exit)) (λ (st : State). enteredOf s st (rawOf (s .calibration) count) contact) ⌝ }
-    ensures weights { λ r. ⌜ Tells (now (state .entry)) (λ (st : State). r ≡ weightsOf s (enteredOf s st (rawOf (s .calibration) count) contact) (rawOf (s .calibration) count) contact) ⌝ }
+    ensures state { λ _.
+        ⌜ Turns (now (state .entry)) (now (state .exit)) (λ (st : State).
+        enteredOf s st (rawOf (s .calibration) count) contact) ⌝ }
+    ensures weights { λ r.
+        ⌜ Tells (now (state .entry)) (λ (st : State).
+        r ≡ weightsOf s (enteredOf s st (rawOf (s .calibration) count) contact) (rawOf (s .calibration) count) contact) ⌝ }
 {
     let raw = weight::raw::raw_of(s.calibration, count);
     let book = book_at(state);
@@ -97,7 +101,9 @@ pub(crate) fn ruled(s: Settings, x: Weights, request: Request, state: &[u8]) -> 
 // The day goes into the answer as it was; the next one begins.
 fn close(state: &mut [u8], answer: &mut [u8])
     ensures state { λ _. ⌜ Turns (now (state .entry)) (now (state .exit)) (λ (st : State). withBook st (closedOf (st .book))) ⌝ }
-    ensures day { λ _. ⌜ Tells (now (state .entry)) (λ (st : State). now (answer .exit) ≡ closedPut (Closed.Day (st .book)) (now (answer .entry))) ⌝ }
+    ensures day { λ _.
+        ⌜ Tells (now (state .entry)) (λ (st : State).
+        now (answer .exit) ≡ closedPut (Closed.Day (st .book)) (now (answer .entry))) ⌝ }
 {
     let day = book_at(state);
     put_day(answer, day);
@@ -120,8 +126,12 @@ pub(crate) fn reply(
     state: &[u8],
     reply: &mut [u8],
 ) -> Wrote
-    ensures wrote { λ r. ⌜ Tells (now (state .entry)) (λ (st : State). r ≡ wroteOf (replyText (s .address) (replyDue command st (readingOf x) outcome)) (now (reply .entry))) ⌝ }
-    ensures bytes { λ _. ⌜ Tells (now (state .entry)) (λ (st : State). now (reply .exit) ≡ writtenOf (replyText (s .address) (replyDue command st (readingOf x) outcome)) (now (reply .entry))) ⌝ }
+    ensures wrote { λ r.
+        ⌜ Tells (now (state .entry)) (λ (st : State).
+        r ≡ wroteOf (replyText (s .address) (replyDue command st (readingOf x) outcome)) (now (reply .entry))) ⌝ }
+    ensures bytes { λ _.
+        ⌜ Tells (now (state .entry)) (λ (st : State).
+        now (reply .exit) ≡ writtenOf (replyText (s .address) (replyDue command st (readingOf x) outcome)) (now (reply .entry))) ⌝ }
 {
     let panel = panel_at(state);
     let setpoints = setpoints_at(state);
@@ -186,11 +196,13 @@ fn take_back(state: &mut [u8])
     put_totals(state, totals::take_back(totals));
 }
 
-// 4. What is done of the request, d: it changes one part of the state. A day that it closes goes into the answer. What reads a part before it writes
-// it is a function of its own above: a proof grows with the steps of a function times its locals.
+// 4. What is done of the request, d: it changes one part of the state. A day that it closes goes into the answer. What reads a part
+// before it writes it is a function of its own above: a proof grows with the steps of a function times its locals.
 pub(crate) fn settle(d: Request, x: Weights, state: &mut [u8], answer: &mut [u8])
     ensures state { λ _. ⌜ Turns (now (state .entry)) (now (state .exit)) (λ (st : State). grantedOf st x d .state) ⌝ }
-    ensures day { λ _. ⌜ Tells (now (state .entry)) (λ (st : State). now (answer .exit) ≡ closedPut (grantedOf st x d .closed) (now (answer .entry))) ⌝ }
+    ensures day { λ _.
+        ⌜ Tells (now (state .entry)) (λ (st : State).
+        now (answer .exit) ≡ closedPut (grantedOf st x d .closed) (now (answer .entry))) ⌝ }
 {
     put_none(answer);
     match d {
@@ -234,7 +246,9 @@ pub(crate) fn is_keyed(d: Request) -> bool
 
 // 5. Tracking. The stage is that which step 4 leaves.
 pub(crate) fn track(s: Settings, keyed: bool, x: Weights, state: &mut [u8])
-    ensures { λ _. ⌜ Turns (now (state .entry)) (now (state .exit)) (λ (st : State). withWeighing st (trackedOf s (idleNow st) keyed x (st .weighing))) ⌝ }
+    ensures { λ _.
+        ⌜ Turns (now (state .entry)) (now (state .exit)) (λ (st : State).
+        withWeighing st (trackedOf s (idleNow st) keyed x (st .weighing))) ⌝ }
 {
     let sequence = sequence_at(state);
     let stage = sequence.stage;
@@ -245,7 +259,9 @@ pub(crate) fn track(s: Settings, keyed: bool, x: Weights, state: &mut [u8])
 
 // A finished batch of v is booked: the sequence that it leaves, and the totals. Both are of the totals as they were.
 fn book_batch(v: i64, after: Sequence, state: &mut [u8])
-    ensures { λ _. ⌜ Turns (now (state .entry)) (now (state .exit)) (λ (st : State). withTotals (withSequence st (bookedSequence (st .totals) v after)) (bookedTotals (st .totals) v)) ⌝ }
+    ensures { λ _.
+        ⌜ Turns (now (state .entry)) (now (state .exit)) (λ (st : State).
+        withTotals (withSequence st (bookedSequence (st .totals) v after)) (bookedTotals (st .totals) v)) ⌝ }
 {
     let totals = totals_at(state);
     put_sequence(state, totals::booked_sequence(totals, v, after));
@@ -283,7 +299,8 @@ pub(crate) fn step(s: Settings, held: bool, x: Weights, state: &mut [u8])
     go_on(s, sequence, x, state);
 }
 
-// Every output, of the state after step 6: of it they ask for the panel, the setpoints and the sequence. A closed day stands in the answer already.
+// Every output, of the state after step 6: of it they ask for the panel, the setpoints and the sequence. A closed day stands in the
+// answer already.
 pub(crate) fn answer(
     s: Settings,
     outcome: Outcome,
@@ -293,7 +310,9 @@ pub(crate) fn answer(
     state: &[u8],
     answer: &mut [u8],
 )
-    ensures { λ _. ⌜ Tells (now (state .entry)) (λ (st : State). now (answer .exit) ≡ outputsPut told length (outputsOf s (answeredOf outcome Closed.Nothing st) x st) (now (answer .entry))) ⌝ }
+    ensures { λ _.
+        ⌜ Tells (now (state .entry)) (λ (st : State).
+        now (answer .exit) ≡ outputsPut told length (outputsOf s (answeredOf outcome Closed.Nothing st) x st) (now (answer .entry))) ⌝ }
 {
     let panel = panel_at(state);
     let setpoints = setpoints_at(state);

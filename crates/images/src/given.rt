@@ -7,8 +7,8 @@ use types::settings::Given;
 // The bytes of a settings image.
 pub(crate) const GIVEN_LENGTH: usize = 128;
 
-// What stands at the places, whatever the bytes are. It asks for the length first, so that the compiler reads a number in one piece; a buffer of
-// another length holds no settings.
+// What stands at the places, whatever the bytes are. It asks for the length first, so that the compiler reads a number in one piece; a
+// buffer of another length holds no settings.
 pub fn given_at(s: &[u8]) -> Given
     ensures { λ r. ⌜ (length (now (s .entry)) ≡ givenLength → r ≡ givenAt (now (s .entry))) ⌝ }
 {
@@ -95,8 +95,8 @@ pub fn given_at(s: &[u8]) -> Given
     }
 }
 
-// What a settings image is refused with, or 0: 20 wrong length, 21 an unused byte that is not 0. Any numbers may be given, so that only the bytes
-// behind them are asked for.
+// What a settings image is refused with, or 0: 20 wrong length, 21 an unused byte that is not 0. Any numbers may be given, so that only
+// the bytes behind them are asked for.
 pub fn given_refusal(s: &[u8]) -> u8
     ensures { λ r. ⌜ r ≡ givenIn (now (s .entry)) .refusal ⌝ }
 {

@@ -9,8 +9,8 @@ pub mod parts;
 pub mod possible;
 pub mod state;
 
-// Figures of images and what images owe. It does nothing: it stands here so that the check's list names the statements, and misses them if a
-// proof goes.
+// Figures of images and what images owe. It does nothing: it stands here so that the check's list names the statements, and misses them
+// if a proof goes.
 pub fn every_image()
     ensures imaged { λ r. ⌜ Imaged ⌝ }
     ensures judged { λ r. ⌜ Judged ⌝ }

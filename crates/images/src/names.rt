@@ -1,7 +1,8 @@
 // What has a name in a state, as a number and back: total, so a number that names nothing reads as the first name. It is found out when the
 // state is written again, and gives another byte.
 ghost use mathlib.Core.Path.{_≡_};
-ghost use Rattle.images.specs.StateImage.{displayNumber, displayOf, stageOf, stageTimer, errorOf, judgementOf, backTag, backWeight, backOf};
+ghost use Rattle.images.specs.StateImage.{displayNumber, displayOf, stageOf, stageTimer, errorOf, judgementOf, backTag, backWeight};
+ghost use Rattle.images.specs.StateImage.{backOf};
 use types::stages::Batch;
 use types::stages::Judgement;
 use types::stages::SequenceError;

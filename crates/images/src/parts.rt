@@ -1,6 +1,6 @@
-// The parts of a state at their places in its image: read, whatever the bytes are, and written. The tables are those of specs/StateImage.antt.
-// Each asks for the length before its first byte, so that the compiler reads a number in one piece; a buffer of another length holds no
-// state, and stays.
+// The parts of a state at their places in its image: read, whatever the bytes are, and written. The tables are those of
+// specs/StateImage.antt. Each asks for the length before its first byte, so that the compiler reads a number in one piece; a buffer of
+// another length holds no state, and stays.
 ghost use mathlib.Core.Path.{_≡_};
 ghost use lib.ListN.{length};
 ghost use Rattle.images.specs.StateImage.{stateLength, stateAt};

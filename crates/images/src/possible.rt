@@ -1,5 +1,5 @@
-// What a state can be, under settings as they are given: the test behind 21, range by range of specs/Possible.antt. A number of the settings
-// counts without its sign; whether the settings are in their own ranges is asked later, and answered with 10.
+// What a state can be, under settings as they are given: the test behind 21, range by range of specs/Possible.antt. A number of the
+// settings counts without its sign; whether the settings are in their own ranges is asked later, and answered with 10.
 ghost use mathlib.Core.Path.{_≡_};
 ghost use Prim.Native.Nat.{_+_, _*_, _≤_, max};
 ghost use lib.Dec.{leb};
@@ -10,7 +10,8 @@ ghost use Rattle.places.specs.Places.{beAt, signed};
 ghost use Rattle.whole.specs.Ints.{eqZ};
 ghost use Rattle.outline.specs.Limits.{rawLimit, riseLimit};
 ghost use Rattle.outline.specs.Settings.{settingsOf};
-ghost use Rattle.images.specs.Possible.{blankBook, bookPossible, stabilityPossible, weighingPossible, timeOf, clockLimit, sequenceFits, totalsPossible, flowPossible, togetherFits, restPossible, possible};
+ghost use Rattle.images.specs.Possible.{blankBook, bookPossible, stabilityPossible, weighingPossible, timeOf, clockLimit};
+ghost use Rattle.images.specs.Possible.{sequenceFits, totalsPossible, flowPossible, togetherFits, restPossible, possible};
 ghost use Rattle.images.specs.GivenImage.{givenLength, givenAt};
 ghost use Rattle.images.specs.StateImage.{stateLength, stateAt};
 ghost use Rattle.outline.specs.Zero.{trackingOn};
@@ -194,7 +195,8 @@ fn is_tracking(g: &[u8]) -> bool
 }
 
 fn is_weighing(g: &[u8], w: Weighing) -> bool
-    ensures { λ r. ⌜ r ≡ weighingPossible (settingsOf (givenAt (now (g .entry))) .range) (settingsOf (givenAt (now (g .entry))) .tracking) w ⌝ }
+    ensures { λ r.
+        ⌜ r ≡ weighingPossible (settingsOf (givenAt (now (g .entry))) .range) (settingsOf (givenAt (now (g .entry))) .tracking) w ⌝ }
 {
     let capacity = given(g, CAPACITY) as u64;
     let zeroes = capacity * (given(g, ZEROING) as u64) / 10;
@@ -304,7 +306,9 @@ fn is_rest(g: &[u8], q: Stability, p: Setpoints, x: Sequence, begun: bool, count
 
 // Whether the state in the image s can be under the settings in the image g: part by part, so that no two parts are at hand at once.
 pub fn is_possible(g: &[u8], s: &[u8]) -> bool
-    ensures { λ r. ⌜ (length (now (g .entry)) ≡ givenLength → length (now (s .entry)) ≡ stateLength → r ≡ possible (settingsOf (givenAt (now (g .entry)))) (stateAt (now (s .entry)))) ⌝ }
+    ensures { λ r.
+        ⌜ (length (now (g .entry)) ≡ givenLength → length (now (s .entry)) ≡ stateLength
+        → r ≡ possible (settingsOf (givenAt (now (g .entry)))) (stateAt (now (s .entry)))) ⌝ }
 {
     if g.len() != GIVEN_LENGTH {
         return false;

@@ -82,7 +82,9 @@ fn put_number(out: &mut [u8], at: usize, a: Amount) -> usize
 // The keys byte by byte, and the next number behind each `=`.
 fn put_text(out: &mut [u8], keys: &[u8], amounts: [Amount; NUMBERS]) -> usize
     requires { ⌜ (marks (now keys) ≤ 8) × (length (filled (now keys) amounts) ≤ length (now out)) ⌝ }
-    ensures { λ r. ⌜ Put (now (out .entry)) 0 (filled (now (keys .entry)) amounts) (now (out .exit)) r (length (filled (now (keys .entry)) amounts)) ⌝ }
+    ensures { λ r.
+        ⌜ Put (now (out .entry)) 0 (filled (now (keys .entry)) amounts) (now (out .exit)) r
+        (length (filled (now (keys .entry)) amounts)) ⌝ }
 {
     let mut at: usize = 0;
     let mut line: usize = 0;
