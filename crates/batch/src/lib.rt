@@ -19,8 +19,8 @@ pub mod gates;
 pub mod sequence;
 mod stages;
 
-// `unfit` is a bad or overloaded tick, v the compared weight; gross is in display digits, as v. What every stage asks stands before what one
-// asks: the first six values of a call pass in registers.
+// `unfit` is a bad or overloaded tick, v the compared weight; gross is in display digits, as v. What every stage asks stands before what
+// one asks: the first six values of a call pass in registers.
 pub fn advance(
     b: Batching,
     p: Setpoints,

@@ -3,7 +3,8 @@ ghost use mathlib.Core.Path.{_≡_};
 ghost use mathlib.Core.Bool.{Bool, true, false};
 ghost use lib.IntN.{ℤ};
 ghost use Rattle.types.specs.declared.stages.Stage.{Stage};
-ghost use Rattle.outline.specs.Stages.{factsAt, waitOf, afterLarge, firstFlow, afterStart, judgedOf, idleOf, flowingOf, dischargingOf, clockOf, failedOf, landOf, advanceOf};
+ghost use Rattle.outline.specs.Stages.{factsAt, waitOf, afterLarge, firstFlow, afterStart, judgedOf, idleOf, flowingOf, dischargingOf};
+ghost use Rattle.outline.specs.Stages.{clockOf, failedOf, landOf, advanceOf};
 use crate::comparison::is_over;
 use crate::comparison::is_reached;
 use crate::comparison::is_under;
@@ -31,7 +32,8 @@ pub(crate) fn fail(q: Sequence, e: SequenceError) -> Advanced
 
 // It stays in its stage or moves to another, with the clock of this tick.
 pub(crate) fn to(q: Sequence, clock: u16, stage: Stage) -> Advanced
-    ensures { λ r. ⌜ r ≡ (record { sequence = record { stage = stage; clock = clock; error = q .error; judgement = q .judgement }; finished = false }) ⌝ }
+    ensures { λ r.
+        ⌜ r ≡ (record { sequence = record { stage = stage; clock = clock; error = q .error; judgement = q .judgement }; finished = false }) ⌝ }
 {
     let error = q.error;
     let judgement = q.judgement;
@@ -48,7 +50,8 @@ pub(crate) fn to(q: Sequence, clock: u16, stage: Stage) -> Advanced
 
 // A batch finishes.
 fn finish(q: Sequence, judgement: Judgement) -> Advanced
-    ensures { λ r. ⌜ r ≡ (record { sequence = record { stage = Stage.Idle; clock = 0; error = q .error; judgement = judgement }; finished = true }) ⌝ }
+    ensures { λ r.
+        ⌜ r ≡ (record { sequence = record { stage = Stage.Idle; clock = 0; error = q .error; judgement = judgement }; finished = true }) ⌝ }
 {
     let error = q.error;
     Advanced {
@@ -144,8 +147,8 @@ pub(crate) fn batched(b: Batching, p: Setpoints, q: Sequence, v: i64, stable: bo
     }
 }
 
-// 04 to 11, where the flow clock runs. It is tested before it grows: at Q it would pass Q in this tick, and error 6 comes. Each arm returns:
-// arms that meet would have the compiler take the sequence apart and put it together again behind them.
+// 04 to 11, where the flow clock runs. It is tested before it grows: at Q it would pass Q in this tick, and error 6 comes. Each arm
+// returns: arms that meet would have the compiler take the sequence apart and put it together again behind them.
 fn flowed(b: Batching, p: Setpoints, q: Sequence, v: i64, stable: bool) -> Advanced
     requires { ⌜ flowingOf (q .stage) ≡ true ⌝ }
     ensures { λ r. ⌜ ((x : ℤ) → r ≡ advanceOf b p q (factsAt p false stable v x)) ⌝ }

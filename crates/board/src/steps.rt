@@ -197,7 +197,7 @@ fn take_back(state: &mut [u8])
 }
 
 // 4. What is done of the request, d: it changes one part of the state. A day that it closes goes into the answer. What reads a part
-// before it writes it is a function of its own above: a proof grows with the steps of a function times its locals.
+// before it writes it is a function of its own above, so that here each request is one line.
 pub(crate) fn settle(d: Request, x: Weights, state: &mut [u8], answer: &mut [u8])
     ensures state { λ _. ⌜ Turns (now (state .entry)) (now (state .exit)) (λ (st : State). grantedOf st x d .state) ⌝ }
     ensures day { λ _.
