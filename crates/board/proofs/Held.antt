@@ -25,10 +25,12 @@ use Rattle.outline.specs.Tick.{steppedOf, outputsOf}
 use Rattle.outline.specs.Steps.{answeredOf}
 use Rattle.images.specs.StateImage.{stateLength, stateAt}
 use Rattle.images.specs.Holds.{Holds}
+use Rattle.images.specs.Buffers.{bytesOf}
+use Rattle.images.proofs.Buffers.{part-here}
 use Rattle.images.proofs.InPlace.{holds-length, holds-state}
 
-pub read-part : {A : Type 0} (f : State → A) {l : List ℕ} {st : State} {r : A} → (length l ≡ stateLength → r ≡ f (stateAt l)) → Holds l st → r ≡ f st
-read-part f e h = e (holds-length h) ∙ ap f (holds-state h)
+pub read-part : {A : Type 0} (f : State → A) {l : List ℕ} {st : State} {r : A} → r ≡ f (stateAt (bytesOf stateLength l)) → Holds l st → r ≡ f st
+read-part f e h = part-here f _ e (holds-length h) ∙ ap f (holds-state h)
 
 -- the same state by another name
 pub held-as : {l : List ℕ} {a b : State} → a ≡ b → Holds l a → Holds l b

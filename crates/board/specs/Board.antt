@@ -63,7 +63,8 @@ openImage l t = unless (openAnswer l (length t)) (imageOf openState) t
 abbrev pub ifRoom : {A : Type 0} → List ℕ → A → A → A
 ifRoom answer done kept = cond (leb answerLength (length answer)) done kept
 
--- what is answered, the image that is left and the answer's bytes, where n is told of a tick that leaves st
+-- with room for the answer, and without: what is answered, the image that is left, the answer's bytes. n is what is told, st the state that
+-- the tick leaves, a its outputs, size the reply's bytes
 abbrev pub roomAnswer : ℕ → List ℕ → ℕ
 roomAnswer n answer = ifRoom answer n 14
 
@@ -71,10 +72,9 @@ abbrev pub roomImage : State → List ℕ → List ℕ → List ℕ
 roomImage st t answer = ifRoom answer (imageOf st) t
 
 abbrev pub roomBuffer : ℕ → ℕ → Answer → List ℕ → List ℕ
-roomBuffer n length a answer = ifRoom answer (answerBuffer n length a answer) answer
+roomBuffer n size a answer = ifRoom answer (answerBuffer n size a answer) answer
 
 -- ---- tick
-
 abbrev pub inputOf : ℤ → Bool → Request → Input
 inputOf count contact request = record { count = count; contact = contact; request = request }
 

@@ -1,5 +1,5 @@
 -- What the steps of a tick in the buffer of its state hand on from one to the next: what the request that is done tells, and the weights;
--- and the answer, which they put in two.
+-- and the answer, which they put in two. No promise of a C call names these.
 use Prim.Native.Nat.{ℕ}
 use mathlib.Core.Bool.{Bool, true, false, cond}
 use mathlib.Core.List.{List, [], _∷_, _++_}

@@ -1,6 +1,6 @@
 // The calls of board/pressgully.h. Between them nothing is kept: the state lies in the caller's 256 bytes, the settings in the caller's
-// 128. Each call judges both images by their bytes and runs its ticks in the buffer of the state; a refused one changes no byte of any
-// buffer.
+// 128. A call judges both images, bytes and ranges, and runs its ticks in the buffer of the state; a refused one changes no byte of any
+// buffer. An opening asks for the length of the state's buffer alone.
 ghost use mathlib.Core.Path.{_≡_};
 ghost use mathlib.Core.Bool.{cond};
 ghost use lib.ListN.{length};
@@ -196,8 +196,8 @@ pub extern "C" fn pressgully_tick(
     }
 }
 
-// The tick with a line, in the same order. The reply is written after the ruling, before anything is done: a read shows the state as step
-// 4 leaves it, and asks for nothing.
+// The tick with a line, in the same order. The reply is written after the ruling, before anything is done: a read changes nothing in step
+// 4, so that what stands before it is what step 4 leaves.
 fn run_line(
     s: Settings,
     count: i32,

@@ -1,7 +1,7 @@
 // A tick in the buffer of its state, in the outline's six steps. Each reads the parts of the state that it asks for from their places and
-// writes those that it makes, so that there is a state nowhere else: a tick takes little of a board's stack. A tick and a line both call
-// each of them, so that the compiler draws none into its caller: each gives its frame back before the next begins (docs/COST.md). What
-// each promises is of the state that the buffer holds.
+// writes those that it makes, so that there is a state nowhere else: a tick takes little of a board's stack. Each step but
+// the reply is called by two C calls or more, so that the compiler draws none into its caller: each gives its frame back before the next
+// begins (docs/COST.md). What each promises is of the state that the buffer holds.
 ghost use mathlib.Core.Path.{_≡_};
 ghost use Rattle.types.specs.declared.machine.State.{State};
 ghost use Rattle.outline.specs.Weight.{rawOf};
@@ -87,7 +87,7 @@ pub(crate) fn again(s: Settings, x: Weights, state: &[u8]) -> Weights
     weight::weigh(s, stability, weighing, raw_again(x), x.contact)
 }
 
-// 4. How the request is settled.
+// 4. The ruling: accepted, or refused with its number.
 pub(crate) fn ruled(s: Settings, x: Weights, request: Request, state: &[u8]) -> Outcome
     ensures { λ r. ⌜ Tells (now (state .entry)) (λ (st : State). r ≡ rulingOf s st x request) ⌝ }
 {
@@ -117,7 +117,8 @@ fn show(display: Display, state: &mut [u8])
     put_panel(state, panel);
 }
 
-// The reply that is due to a line, into its buffer: a read shows the state as it stands before step 4, which a read leaves.
+// The reply that is due to a line, into its buffer. A read changes nothing in step 4, so that what stands before it is what step 4 leaves.
+// Of the state a reply asks for the panel, the setpoints and the totals; the other parts stand as at the opening, and are not looked at.
 pub(crate) fn reply(
     s: Settings,
     command: Command,
@@ -196,7 +197,7 @@ fn take_back(state: &mut [u8])
     put_totals(state, totals::take_back(totals));
 }
 
-// 4. What is done of the request, d: it changes one part of the state. A day that it closes goes into the answer. What reads a part
+// 4. What is done of the request, d: it changes at most one part of the state. A day that it closes goes into the answer. What reads a part
 // before it writes it is a function of its own above, so that here each request is one line.
 pub(crate) fn settle(d: Request, x: Weights, state: &mut [u8], answer: &mut [u8])
     ensures state { λ _. ⌜ Turns (now (state .entry)) (now (state .exit)) (λ (st : State). grantedOf st x d .state) ⌝ }

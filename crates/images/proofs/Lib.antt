@@ -4,6 +4,7 @@ pub mod Tables
 pub mod Trip
 pub mod GivenTrip
 pub mod Read
+pub mod Buffers
 pub mod InPlace
 pub mod Decided
 pub mod Bounds

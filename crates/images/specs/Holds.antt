@@ -73,7 +73,8 @@ pub record Holds (l : List ℕ) (st : State) : Type 0 where
   pub image : imageOf st ≡ l
   pub held : HeldState st
 
--- what is said of a buffer is so of the state that it holds
+-- what is said of a buffer is so of the state that it holds: it holds at most one, since an image has one state, and of a buffer that holds
+-- none nothing is said
 abbrev pub Tells : List ℕ → (State → Type 0) → Type 0
 Tells l f = (st : State) → Holds l st → f st
 

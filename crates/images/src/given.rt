@@ -1,16 +1,16 @@
 // The settings image: read, all of its numbers as they are given. The caller writes it.
 ghost use mathlib.Core.Path.{_≡_};
-ghost use lib.ListN.{length};
 ghost use Rattle.images.specs.GivenImage.{givenLength, givenAt, givenIn};
+ghost use Rattle.images.specs.Buffers.{bytesOf};
 use types::settings::Given;
 
 // The bytes of a settings image.
 pub(crate) const GIVEN_LENGTH: usize = 128;
 
 // What stands at the places, whatever the bytes are. It asks for the length first, so that the compiler reads a number in one piece; a
-// buffer of another length holds no settings.
+// buffer of another length holds no settings, and reads as numbers that are all 0.
 pub fn given_at(s: &[u8]) -> Given
-    ensures { λ r. ⌜ (length (now (s .entry)) ≡ givenLength → r ≡ givenAt (now (s .entry))) ⌝ }
+    ensures { λ r. ⌜ r ≡ givenAt (bytesOf givenLength (now (s .entry))) ⌝ }
 {
     if s.len() != GIVEN_LENGTH {
         return Given {

@@ -1,5 +1,5 @@
-// Images: a state in 256 bytes and settings in 128, as docs/IMAGES.md fixes them. An image is read whole and judged, or a state is written;
-// nothing is kept here.
+// Images: a state in 256 bytes and settings in 128, as docs/IMAGES.md fixes them. The parts of a state are read and written in their
+// places; an image is judged by its bytes and by its ranges. Nothing is kept here.
 ghost use Rattle.images.specs.Figures.{Imaged, Judged};
 ghost use Rattle.images.specs.Owed.{ReadBack, OneImage, UnusedZero, GivenBack, OneGiven, UnusedGiven, Decides, RunsPass, FromImages};
 

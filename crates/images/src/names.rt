@@ -1,5 +1,5 @@
-// What has a name in a state, as a number and back: total, so a number that names nothing reads as the first name. It is found out when the
-// state is written again, and gives another byte.
+// What has a name in a state, as a number and back: total, so a number that names nothing reads as the first name.
+// `state::bytes_refusal` finds it out: the name's own number is another.
 ghost use mathlib.Core.Path.{_≡_};
 ghost use Rattle.images.specs.StateImage.{displayNumber, displayOf, stageOf, stageTimer, errorOf, judgementOf, backTag, backWeight};
 ghost use Rattle.images.specs.StateImage.{backOf};

@@ -1,9 +1,11 @@
 // The parts of a state at their places in its image: read, whatever the bytes are, and written. The tables are those of
 // specs/StateImage.antt. Each asks for the length before its first byte, so that the compiler reads a number in one piece; a buffer of
-// another length holds no state, and stays.
+// another length holds no state: it reads as the opening's, and stays.
 ghost use mathlib.Core.Path.{_≡_};
-ghost use lib.ListN.{length};
-ghost use Rattle.images.specs.StateImage.{stateLength, stateAt};
+ghost use Rattle.images.specs.StateImage.{stateLength, stateAt, bookRows, bookNumbers, stabilityRows, stabilityNumbers};
+ghost use Rattle.images.specs.StateImage.{weighingRows, weighingNumbers, panelRows, panelNumbers, setpointRows, setpointNumbers};
+ghost use Rattle.images.specs.StateImage.{sequenceRows, sequenceNumbers, totalsRows, totalsNumbers};
+ghost use Rattle.images.specs.Buffers.{bytesOf, putPart};
 ghost use Rattle.types.specs.declared.machine.State.{State};
 ghost use Rattle.outline.specs.Parts.{withBook, withStability, withWeighing, withSetpoints, withSequence, withTotals};
 ghost use Rattle.images.specs.Holds.{Turns, withPanel};
@@ -36,7 +38,7 @@ use types::weight::Weighing;
 pub(crate) const STATE_LENGTH: usize = 256;
 
 pub fn book_at(s: &[u8]) -> Book
-    ensures { λ r. ⌜ (length (now (s .entry)) ≡ stateLength → r ≡ stateAt (now (s .entry)) .book) ⌝ }
+    ensures { λ r. ⌜ r ≡ stateAt (bytesOf stateLength (now (s .entry))) .book ⌝ }
 {
     if s.len() != STATE_LENGTH {
         return Book {
@@ -71,7 +73,8 @@ pub fn book_at(s: &[u8]) -> Book
 }
 
 pub fn put_book(s: &mut [u8], b: Book)
-    ensures { λ _. ⌜ Turns (now (s .entry)) (now (s .exit)) (λ (st : State). withBook st b) ⌝ }
+    ensures state { λ _. ⌜ Turns (now (s .entry)) (now (s .exit)) (λ (st : State). withBook st b) ⌝ }
+    ensures bytes { λ _. ⌜ now (s .exit) ≡ putPart bookRows (bookNumbers b) (now (s .entry)) ⌝ }
 {
     if s.len() != STATE_LENGTH {
         return;
@@ -87,7 +90,7 @@ pub fn put_book(s: &mut [u8], b: Book)
 }
 
 pub fn stability_at(s: &[u8]) -> Stability
-    ensures { λ r. ⌜ (length (now (s .entry)) ≡ stateLength → r ≡ stateAt (now (s .entry)) .stability) ⌝ }
+    ensures { λ r. ⌜ r ≡ stateAt (bytesOf stateLength (now (s .entry))) .stability ⌝ }
 {
     if s.len() != STATE_LENGTH {
         return Stability {
@@ -101,7 +104,8 @@ pub fn stability_at(s: &[u8]) -> Stability
 }
 
 pub fn put_stability(s: &mut [u8], q: Stability)
-    ensures { λ _. ⌜ Turns (now (s .entry)) (now (s .exit)) (λ (st : State). withStability st q) ⌝ }
+    ensures state { λ _. ⌜ Turns (now (s .entry)) (now (s .exit)) (λ (st : State). withStability st q) ⌝ }
+    ensures bytes { λ _. ⌜ now (s .exit) ≡ putPart stabilityRows (stabilityNumbers q) (now (s .entry)) ⌝ }
 {
     if s.len() != STATE_LENGTH {
         return;
@@ -111,7 +115,7 @@ pub fn put_stability(s: &mut [u8], q: Stability)
 }
 
 pub fn weighing_at(s: &[u8]) -> Weighing
-    ensures { λ r. ⌜ (length (now (s .entry)) ≡ stateLength → r ≡ stateAt (now (s .entry)) .weighing) ⌝ }
+    ensures { λ r. ⌜ r ≡ stateAt (bytesOf stateLength (now (s .entry))) .weighing ⌝ }
 {
     if s.len() != STATE_LENGTH {
         return Weighing {
@@ -134,7 +138,8 @@ pub fn weighing_at(s: &[u8]) -> Weighing
 }
 
 pub fn put_weighing(s: &mut [u8], w: Weighing)
-    ensures { λ _. ⌜ Turns (now (s .entry)) (now (s .exit)) (λ (st : State). withWeighing st w) ⌝ }
+    ensures state { λ _. ⌜ Turns (now (s .entry)) (now (s .exit)) (λ (st : State). withWeighing st w) ⌝ }
+    ensures bytes { λ _. ⌜ now (s .exit) ≡ putPart weighingRows (weighingNumbers w) (now (s .entry)) ⌝ }
 {
     if s.len() != STATE_LENGTH {
         return;
@@ -146,7 +151,7 @@ pub fn put_weighing(s: &mut [u8], w: Weighing)
 }
 
 pub fn panel_at(s: &[u8]) -> Panel
-    ensures { λ r. ⌜ (length (now (s .entry)) ≡ stateLength → r ≡ stateAt (now (s .entry)) .panel) ⌝ }
+    ensures { λ r. ⌜ r ≡ stateAt (bytesOf stateLength (now (s .entry))) .panel ⌝ }
 {
     if s.len() != STATE_LENGTH {
         return Panel {
@@ -158,7 +163,8 @@ pub fn panel_at(s: &[u8]) -> Panel
 }
 
 pub fn put_panel(s: &mut [u8], p: Panel)
-    ensures { λ _. ⌜ Turns (now (s .entry)) (now (s .exit)) (λ (st : State). withPanel st p) ⌝ }
+    ensures state { λ _. ⌜ Turns (now (s .entry)) (now (s .exit)) (λ (st : State). withPanel st p) ⌝ }
+    ensures bytes { λ _. ⌜ now (s .exit) ≡ putPart panelRows (panelNumbers p) (now (s .entry)) ⌝ }
 {
     if s.len() != STATE_LENGTH {
         return;
@@ -168,7 +174,7 @@ pub fn put_panel(s: &mut [u8], p: Panel)
 }
 
 pub fn setpoints_at(s: &[u8]) -> Setpoints
-    ensures { λ r. ⌜ (length (now (s .entry)) ≡ stateLength → r ≡ stateAt (now (s .entry)) .setpoints) ⌝ }
+    ensures { λ r. ⌜ r ≡ stateAt (bytesOf stateLength (now (s .entry))) .setpoints ⌝ }
 {
     if s.len() != STATE_LENGTH {
         return Setpoints {
@@ -200,7 +206,8 @@ pub fn setpoints_at(s: &[u8]) -> Setpoints
 }
 
 pub fn put_setpoints(s: &mut [u8], p: Setpoints)
-    ensures { λ _. ⌜ Turns (now (s .entry)) (now (s .exit)) (λ (st : State). withSetpoints st p) ⌝ }
+    ensures state { λ _. ⌜ Turns (now (s .entry)) (now (s .exit)) (λ (st : State). withSetpoints st p) ⌝ }
+    ensures bytes { λ _. ⌜ now (s .exit) ≡ putPart setpointRows (setpointNumbers p) (now (s .entry)) ⌝ }
 {
     if s.len() != STATE_LENGTH {
         return;
@@ -215,7 +222,7 @@ pub fn put_setpoints(s: &mut [u8], p: Setpoints)
 }
 
 pub fn sequence_at(s: &[u8]) -> Sequence
-    ensures { λ r. ⌜ (length (now (s .entry)) ≡ stateLength → r ≡ stateAt (now (s .entry)) .sequence) ⌝ }
+    ensures { λ r. ⌜ r ≡ stateAt (bytesOf stateLength (now (s .entry))) .sequence ⌝ }
 {
     if s.len() != STATE_LENGTH {
         return Sequence {
@@ -238,7 +245,8 @@ pub fn sequence_at(s: &[u8]) -> Sequence
 }
 
 pub fn put_sequence(s: &mut [u8], q: Sequence)
-    ensures { λ _. ⌜ Turns (now (s .entry)) (now (s .exit)) (λ (st : State). withSequence st q) ⌝ }
+    ensures state { λ _. ⌜ Turns (now (s .entry)) (now (s .exit)) (λ (st : State). withSequence st q) ⌝ }
+    ensures bytes { λ _. ⌜ now (s .exit) ≡ putPart sequenceRows (sequenceNumbers q) (now (s .entry)) ⌝ }
 {
     if s.len() != STATE_LENGTH {
         return;
@@ -254,7 +262,7 @@ pub fn put_sequence(s: &mut [u8], q: Sequence)
 }
 
 pub fn totals_at(s: &[u8]) -> Totals
-    ensures { λ r. ⌜ (length (now (s .entry)) ≡ stateLength → r ≡ stateAt (now (s .entry)) .totals) ⌝ }
+    ensures { λ r. ⌜ r ≡ stateAt (bytesOf stateLength (now (s .entry))) .totals ⌝ }
 {
     if s.len() != STATE_LENGTH {
         return Totals {
@@ -270,7 +278,8 @@ pub fn totals_at(s: &[u8]) -> Totals
 }
 
 pub fn put_totals(s: &mut [u8], t: Totals)
-    ensures { λ _. ⌜ Turns (now (s .entry)) (now (s .exit)) (λ (st : State). withTotals st t) ⌝ }
+    ensures state { λ _. ⌜ Turns (now (s .entry)) (now (s .exit)) (λ (st : State). withTotals st t) ⌝ }
+    ensures bytes { λ _. ⌜ now (s .exit) ≡ putPart totalsRows (totalsNumbers t) (now (s .entry)) ⌝ }
 {
     if s.len() != STATE_LENGTH {
         return;

@@ -4,16 +4,15 @@ ghost use mathlib.Core.Path.{_≡_};
 ghost use Prim.Native.Nat.{_+_, _*_, _≤_, max};
 ghost use lib.Dec.{leb};
 ghost use lib.IntN.{natAbs, _+ℤ_, _-ℤ_};
-ghost use lib.ListN.{length};
 ghost use mir.Syntax.{w32};
 ghost use Rattle.places.specs.Places.{beAt, signed};
 ghost use Rattle.whole.specs.Ints.{eqZ};
 ghost use Rattle.outline.specs.Limits.{rawLimit, riseLimit};
 ghost use Rattle.outline.specs.Settings.{settingsOf};
 ghost use Rattle.images.specs.Possible.{blankBook, bookPossible, stabilityPossible, weighingPossible, timeOf, clockLimit};
-ghost use Rattle.images.specs.Possible.{sequenceFits, totalsPossible, flowPossible, togetherFits, restPossible, possible};
-ghost use Rattle.images.specs.GivenImage.{givenLength, givenAt};
-ghost use Rattle.images.specs.StateImage.{stateLength, stateAt};
+ghost use Rattle.images.specs.Possible.{sequenceFits, totalsPossible, flowPossible, togetherFits, restPossible};
+ghost use Rattle.images.specs.GivenImage.{givenAt};
+ghost use Rattle.images.specs.Buffers.{possibleIn};
 ghost use Rattle.outline.specs.Zero.{trackingOn};
 use crate::given::GIVEN_LENGTH;
 use crate::names::back_tag;
@@ -304,11 +303,9 @@ fn is_rest(g: &[u8], q: Stability, p: Setpoints, x: Sequence, begun: bool, count
         & is_together(mode, p, n, q.good, begun, counter)
 }
 
-// Whether the state in the image s can be under the settings in the image g: part by part, so that no two parts are at hand at once.
+// Whether the state in the image s can be under the settings in the image g: part by part, so that few parts are at hand at once.
 pub fn is_possible(g: &[u8], s: &[u8]) -> bool
-    ensures { λ r.
-        ⌜ (length (now (g .entry)) ≡ givenLength → length (now (s .entry)) ≡ stateLength
-        → r ≡ possible (settingsOf (givenAt (now (g .entry)))) (stateAt (now (s .entry)))) ⌝ }
+    ensures { λ r. ⌜ r ≡ possibleIn (now (g .entry)) (now (s .entry)) ⌝ }
 {
     if g.len() != GIVEN_LENGTH {
         return false;

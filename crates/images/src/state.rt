@@ -57,9 +57,9 @@ fn is_unused_zero(s: &[u8]) -> bool
         & places::are_zero(s, 120, 136)
 }
 
-// What a state image is refused with for its bytes, or 0: 20 wrong length, 21 bytes that its state, written again, would not give. A
-// second image would be compared here: what it could show is asked of the bytes themselves. Whether the state is possible is asked by
-// possible::is_possible.
+// What a state image is refused with for its bytes, or 0: 20 wrong length, 21 bytes that its state, written again, would not give. The
+// definition compares a second image; here the bytes themselves are asked, which comes to the same (places/Again). Whether the state is
+// possible is asked by possible::is_possible.
 pub fn bytes_refusal(s: &[u8]) -> u8
     ensures { λ r. ⌜ r ≡ bytesRefusal (now (s .entry)) ⌝ }
 {

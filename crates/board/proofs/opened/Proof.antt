@@ -1,7 +1,8 @@
 -- The opening of what stands at the places.
 use mathlib.Core.Path.{_∙_, ap}
 use Rattle.outline.specs.Settings.{openOf}
-use Rattle.images.specs.GivenImage.{givenIn}
+use Rattle.images.specs.GivenImage.{givenAt, givenIn}
+use Rattle.images.proofs.Buffers.{of-length}
 use borrow.Author.Needs.{needs}
 use Rattle.board.proofs.opened.Statement.{statement}
 use Rattle.board.proofs.opened.Tie as tie
@@ -14,7 +15,7 @@ open-requires c κs = search needs
 
 returns : tie.Need-returns
 unfolding givenIn
-returns c e = c .«open» .ensures .0 ∙ ap openOf (c .before .given-at .ensures e)
+returns c e = c .«open» .ensures .0 ∙ ap openOf (c .before .given-at .ensures ∙ ap givenAt (of-length _ _ e))
 
 pub opened-spec : {M : Type 1} → statement M
 opened-spec = tie.close (tie.spec given-at-requires open-requires returns)

@@ -31,7 +31,7 @@ returns c st h =
     let t = read-part (λ (t : State). t .totals) (c .before .before .before .before .before .before .before .before .before .before .totals-at .ensures) h in
     let es = by-totals _ _ _ t (simp (toZ-ofZ (start .fits .v)) at (c .before .before .before .before .before .before .before .before .booked-sequence .ensures)) in
     let et = booked-by _ _ t (simp (toZ-ofZ (start .fits .v)) at (c .before .before .before .booked-totals .ensures)) in
-    held-as (λ i. withTotals (withSequence st (es i)) (et i)) (c .before .before .put-totals .ensures _ (c .before .before .before .before .before .before .before .put-sequence .ensures st h))
+    held-as (λ i. withTotals (withSequence st (es i)) (et i)) (c .before .before .put-totals .ensures .0 _ (c .before .before .before .before .before .before .before .put-sequence .ensures .0 st h))
 
 pub book-batch-spec : {M : Type 1} → statement M
 book-batch-spec =

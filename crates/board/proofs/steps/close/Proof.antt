@@ -31,7 +31,7 @@ same-length-2 c = search needs
 
 returns : tie.Need-returns
 returns c = (
-  (λ st h. held-as (λ i. withBook st ((c .before .before .before .closed-book .ensures ∙ ap closedOf (read-part (λ (t : State). t .book) (c .before .before .before .before .before .before .before .before .before .book-at .ensures) h)) i)) (c .before .before .put-book .ensures st h)),
+  (λ st h. held-as (λ i. withBook st ((c .before .before .before .closed-book .ensures ∙ ap closedOf (read-part (λ (t : State). t .book) (c .before .before .before .before .before .before .before .before .before .book-at .ensures) h)) i)) (c .before .before .put-book .ensures .0 st h)),
   (λ st h. c .before .before .before .before .before .before .before .put-day .ensures ∙ ap (λ (b : Book). closedPut (closed.Day b) (c .before .before .before .before .before .before .before .before .before .before .before .before .before .args .answer .now)) (read-part (λ (t : State). t .book) (c .before .before .before .before .before .before .before .before .before .book-at .ensures) h)),
 )
 

@@ -71,7 +71,7 @@ returns : tie.Need-returns
 unfolding enteredOf weightsOf
 returns c =
     let a = start c .args in (
-      (λ st h. held-as (λ i. withStability (withBook st (made c st h .booked i)) (made c st h .steadied i)) (c .before .before .before .put-stability .ensures _ (c .before .before .before .before .before .before .before .put-book .ensures st h))),
+      (λ st h. held-as (λ i. withStability (withBook st (made c st h .booked i)) (made c st h .steadied i)) (c .before .before .before .put-stability .ensures .0 _ (c .before .before .before .before .before .before .before .put-book .ensures .0 st h))),
       (λ st h. c .weigh .ensures ∙ (λ i. weighOf (a .s) (made c st h .steadied i) (read-part (λ (t : State). t .weighing) (c .before .before .before .before .before .before .before .before .before .before .before .before .weighing-at .ensures) h i) (made c st h .raw i) (a .contact))),
     )
 

@@ -55,7 +55,7 @@ returns-2 c st h e =
     let v = on .before .before .before .before .before .compared in
     let ev = be (got {w = w64} (v .result) (v .ok)) (v .ensures) .read in
     let ea = by-sequence _ _ _ _ e (simp (toZ-ofZ (gross (on .before .before .before .before .before .before .before .before))) at (on .advance .ensures)) in
-    held-as (step-on _ st _ _ _ _ _ n (on .before .before .before .before .is-fit .ensures) ev ea (c .before .before .before .before .if1 .left)) (c .before .before .put-sequence .ensures st h)
+    held-as (step-on _ st _ _ _ _ _ n (on .before .before .before .before .is-fit .ensures) ev ea (c .before .before .before .before .if1 .left)) (c .before .before .put-sequence .ensures .0 st h)
 
 pub go-on-spec : {M : Type 1} → statement M
 go-on-spec =

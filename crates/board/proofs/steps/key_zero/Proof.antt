@@ -26,7 +26,7 @@ returns c st h =
     let start = c .before .before .before .before .before .before .before .before in
     let w = read-part (λ (t : State). t .weighing) (c .before .before .before .before .before .weighing-at .ensures) h in
     let e = simp (toZ-ofZ (start .fits .raw)) at (c .before .before .before .zeroed .ensures) ∙ (λ i. zeroedOf (w i) (start .args .raw)) in
-    held-as (λ i. withWeighing st (e i)) (c .before .before .put-weighing .ensures st h)
+    held-as (λ i. withWeighing st (e i)) (c .before .before .put-weighing .ensures .0 st h)
 
 pub key-zero-spec : {M : Type 1} → statement M
 key-zero-spec =

@@ -26,7 +26,7 @@ returns c st h =
     let start = c .before .before .before .before .before .before .before .before in
     let w = read-part (λ (t : State). t .weighing) (c .before .before .before .before .before .weighing-at .ensures) h in
     let e = simp (toZ-ofZ (start .fits .tare)) at (c .before .before .before .tared .ensures) ∙ (λ i. taredOf (w i) (start .args .tare)) in
-    held-as (λ i. withWeighing st (e i)) (c .before .before .put-weighing .ensures st h)
+    held-as (λ i. withWeighing st (e i)) (c .before .before .put-weighing .ensures .0 st h)
 
 pub put-tare-spec : {M : Type 1} → statement M
 put-tare-spec =

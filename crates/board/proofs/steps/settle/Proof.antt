@@ -131,7 +131,7 @@ returns-5 c =
     let start = c .before .before .before .before .before .before .before .before .before .before .before .before .before in
     let told = c .before .before .before .before .before .enum-told5 .given .1 in
     let x = start .args .x in (
-      (λ st h. held-as (ap leaving (left-start st x _ told _ (c .before .before .before .start-sequence .ensures))) (c .before .before .put-sequence .ensures st h)),
+      (λ st h. held-as (ap leaving (left-start st x _ told _ (c .before .before .before .start-sequence .ensures))) (c .before .before .put-sequence .ensures .0 st h)),
       (λ st h. c .before .before .before .before .before .before .before .before .before .put-none .ensures ∙ ap (closing (start .args .answer .now)) (left-start st x _ told _ (c .before .before .before .start-sequence .ensures))),
     )
 
@@ -173,7 +173,7 @@ returns-7 c =
     let start = c .before .before .before .before .before .before .before .before .before .before .before .before .before in
     let told = c .before .before .before .before .before .d .given .1 in
     let x = start .args .x in (
-      (λ st h. held-as (ap leaving (left-set st x _ _ told)) (c .before .before .put-setpoints .ensures st h)),
+      (λ st h. held-as (ap leaving (left-set st x _ _ told)) (c .before .before .put-setpoints .ensures .0 st h)),
       (λ st h. c .before .before .before .before .before .before .before .before .before .put-none .ensures ∙ ap (closing (start .args .answer .now)) (left-set st x _ _ told)),
     )
 
@@ -197,7 +197,7 @@ returns-8 c =
     let start = c .before .before .before .before .before .before .before .before .before .before .before .before .before in
     let told = c .before .before .before .before .before .enum-told7 .given .1 in
     let x = start .args .x in (
-      (λ st h. held-as (ap leaving (left-total-clear st x _ told _ (c .before .before .before .clear-totals .ensures))) (c .before .before .put-totals .ensures st h)),
+      (λ st h. held-as (ap leaving (left-total-clear st x _ told _ (c .before .before .before .clear-totals .ensures))) (c .before .before .put-totals .ensures .0 st h)),
       (λ st h. c .before .before .before .before .before .before .before .before .before .put-none .ensures ∙ ap (closing (start .args .answer .now)) (left-total-clear st x _ told _ (c .before .before .before .clear-totals .ensures))),
     )
 

@@ -21,7 +21,7 @@ same-length : tie.Need-same-length
 same-length c = search needs
 
 returns : tie.Need-returns
-returns c st h = held-as (λ i. withSequence st ((c .before .before .before .stop-sequence .ensures ∙ ap stopSequence (read-part (λ (t : State). t .sequence) (c .before .before .before .before .before .sequence-at .ensures) h)) i)) (c .before .before .put-sequence .ensures st h)
+returns c st h = held-as (λ i. withSequence st ((c .before .before .before .stop-sequence .ensures ∙ ap stopSequence (read-part (λ (t : State). t .sequence) (c .before .before .before .before .before .sequence-at .ensures) h)) i)) (c .before .before .put-sequence .ensures .0 st h)
 
 pub stop-spec : {M : Type 1} → statement M
 stop-spec =

@@ -21,7 +21,7 @@ same-length : tie.Need-same-length
 same-length c = search needs
 
 returns : tie.Need-returns
-returns c st h = held-as (λ i. withTotals st ((c .before .before .before .take-back .ensures ∙ ap takenBack (read-part (λ (t : State). t .totals) (c .before .before .before .before .before .totals-at .ensures) h)) i)) (c .before .before .put-totals .ensures st h)
+returns c st h = held-as (λ i. withTotals st ((c .before .before .before .take-back .ensures ∙ ap takenBack (read-part (λ (t : State). t .totals) (c .before .before .before .before .before .totals-at .ensures) h)) i)) (c .before .before .put-totals .ensures .0 st h)
 
 pub take-back-spec : {M : Type 1} → statement M
 take-back-spec =

@@ -34,7 +34,7 @@ returns c st h =
     let w = read-part (λ (t : State). t .weighing) (c .before .before .before .before .before .weighing-at .ensures) h in
     let idle = c .before .before .before .before .before .before .before .is-idle .ensures ∙ (λ i. idleOf (q i .stage)) in
     let e = c .before .before .before .tracked .ensures ∙ (λ i. trackedOf (a .s) (idle i) (a .keyed) (a .x) (w i)) in
-    held-as (λ i. withWeighing st (e i)) (c .before .before .put-weighing .ensures st h)
+    held-as (λ i. withWeighing st (e i)) (c .before .before .put-weighing .ensures .0 st h)
 
 pub track-spec : {M : Type 1} → statement M
 track-spec =

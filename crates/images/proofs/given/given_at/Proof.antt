@@ -1,15 +1,17 @@
 -- Each field is the number at its place, a line a row.
-use mathlib.Core.Path.{_∙_}
+use mathlib.Core.Path.{sym, ap, _∙_}
 use mir.Syntax.{w32}
 use borrow.Author.Needs.{needs}
 use Rattle.whole.specs.Bits.{got}
-use Rattle.places.specs.Places.{getAll}
-use Rattle.images.specs.GivenImage.{givenAt}
+use Rattle.places.specs.Places.{getAll, beAt, signed}
+use Rattle.images.specs.GivenImage.{givenLength, givenAt}
+use Rattle.images.proofs.Buffers.{of-length, of-other}
 use Rattle.images.proofs.given.given_at.Statement.{statement}
 use Rattle.images.proofs.given.given_at.Tie as tie
 
 returns : tie.Need-returns
-returns c e = absurd (c .if1 .taken e)
+unfolding givenAt getAll beAt signed
+returns c = ap givenAt (sym (of-other givenLength _ (c .if1 .taken)))
 
 i32-at-requires : tie.Need-i32-at-requires
 i32-at-requires c κs = search needs
@@ -88,8 +90,8 @@ i32-at-requires-25 c κs = search needs
 
 returns-2 : tie.Need-returns-2
 unfolding givenAt getAll
-returns-2 c e =
-    λ i. record {
+returns-2 c =
+    (λ i. record {
       zero = (got {w = w32} _ (c .before .before .before .before .before .before .before .before .before .before .before .before .before .before .before .before .before .before .before .before .before .before .before .before .i32-at .ok) .read ∙ c .before .before .before .before .before .before .before .before .before .before .before .before .before .before .before .before .before .before .before .before .before .before .before .before .i32-at .ensures) i;
       span = (got {w = w32} _ (c .before .before .before .before .before .before .before .before .before .before .before .before .before .before .before .before .before .before .before .before .before .before .before .i32-at2 .ok) .read ∙ c .before .before .before .before .before .before .before .before .before .before .before .before .before .before .before .before .before .before .before .before .before .before .before .i32-at2 .ensures) i;
       capacity = (got {w = w32} _ (c .before .before .before .before .before .before .before .before .before .before .before .before .before .before .before .before .before .before .before .before .before .before .i32-at3 .ok) .read ∙ c .before .before .before .before .before .before .before .before .before .before .before .before .before .before .before .before .before .before .before .before .before .before .i32-at3 .ensures) i;
@@ -115,7 +117,8 @@ returns-2 c e =
       dischargestart = (got {w = w32} _ (c .before .before .i32-at23 .ok) .read ∙ c .before .before .i32-at23 .ensures) i;
       dischargeend = (got {w = w32} _ (c .before .i32-at24 .ok) .read ∙ c .before .i32-at24 .ensures) i;
       dischargelimit = (got {w = w32} _ (c .i32-at25 .ok) .read ∙ c .i32-at25 .ensures) i;
-    }
+    })
+    ∙ ap givenAt (sym (of-length givenLength _ (c .before .before .before .before .before .before .before .before .before .before .before .before .before .before .before .before .before .before .before .before .before .before .before .before .before .if1 .left)))
 
 pub given-at-spec : {M : Type 1} → statement M
 given-at-spec =

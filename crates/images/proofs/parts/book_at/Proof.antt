@@ -1,15 +1,19 @@
 -- Each field is the number at its place, a line a row.
-use mathlib.Core.Path.{_∙_}
+use Prim.Native.Nat.{ℕ}
+use mathlib.Core.List.{List}
+use mathlib.Core.Path.{sym, ap, _∙_}
 use mir.Syntax.{w32, w64}
 use borrow.Author.Needs.{needs}
 use Rattle.whole.specs.Bits.{got}
-use Rattle.places.specs.Places.{getAll}
-use Rattle.images.specs.StateImage.{stateAt}
+use Rattle.places.specs.Places.{getAll, beAt, signed, flagOf}
+use Rattle.images.specs.StateImage.{stateAt, stateLength}
+use Rattle.images.proofs.Buffers.{of-length, of-other}
 use Rattle.images.proofs.parts.book_at.Statement.{statement}
 use Rattle.images.proofs.parts.book_at.Tie as tie
 
 returns : tie.Need-returns
-returns c e = absurd (c .if1 .taken e)
+unfolding stateAt getAll beAt signed flagOf
+returns c = ap (λ (b : List ℕ). stateAt b .book) (sym (of-other stateLength _ (c .if1 .taken)))
 
 i32-at-requires : tie.Need-i32-at-requires
 i32-at-requires c κs = search needs
@@ -37,8 +41,8 @@ flag-at-requires-2 c κs = search needs
 
 returns-2 : tie.Need-returns-2
 unfolding stateAt getAll
-returns-2 c e =
-    λ i. record {
+returns-2 c =
+    (λ i. record {
       opening = (got {w = w32} _ (c .before .before .before .before .before .before .before .i32-at .ok) .read ∙ c .before .before .before .before .before .before .before .i32-at .ensures) i;
       last = (got {w = w32} _ (c .before .before .before .before .before .before .i32-at2 .ok) .read ∙ c .before .before .before .before .before .before .i32-at2 .ensures) i;
       refilled = (got {w = w64} _ (c .before .before .before .before .before .i64-at .ok) .read ∙ c .before .before .before .before .before .i64-at .ensures) i;
@@ -47,7 +51,8 @@ returns-2 c e =
       ticks = c .before .before .u32-at .ensures i;
       begun = c .before .flag-at .ensures i;
       contact = c .flag-at2 .ensures i;
-    }
+    })
+    ∙ ap (λ (b : List ℕ). stateAt b .book) (sym (of-length stateLength _ (c .before .before .before .before .before .before .before .before .if1 .left)))
 
 pub book-at-spec : {M : Type 1} → statement M
 book-at-spec =

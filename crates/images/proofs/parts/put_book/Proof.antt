@@ -1,5 +1,5 @@
 -- Each row is written over the bytes that the rows before it left.
-use mathlib.Core.Path.{_≡_, ap, _∙_}
+use mathlib.Core.Path.{_≡_, sym, ap, _∙_}
 use lib.ListN.{length}
 use mir.Syntax.{w32, w64}
 use native.Mathlib.Omega.{arith}
@@ -10,6 +10,7 @@ use Rattle.places.proofs.Layouts.{put-all-length}
 use Rattle.places.specs.Places.{putBe, putAll, coded, flagTag}
 use Rattle.images.specs.StateImage.{bookRows, bookNumbers}
 use Rattle.images.specs.Holds.{HeldBook}
+use Rattle.images.proofs.Buffers.{put-here, put-nowhere}
 use Rattle.images.proofs.InPlace.{turns-book, holds-length}
 use Rattle.images.proofs.parts.put_book.Statement.{statement}
 use Rattle.images.proofs.parts.put_book.Tie as tie
@@ -18,7 +19,7 @@ fields : (s : tie.Start) → HeldBook (s .args .b)
 fields s = record { opening = search sfits-of; last = search sfits-of; refilled = search sfits-of; used = search sfits-of; unbooked = search sfits-of; ticks = omega arith }
 
 returns : tie.Need-returns
-returns c st h = absurd (c .if1 .taken (holds-length h))
+returns c = ((λ st h. absurd (c .if1 .taken (holds-length h))), sym (put-nowhere _ _ _ (c .if1 .taken)))
 
 put-i32-requires : tie.Need-put-i32-requires
 put-i32-requires c κs = search needs
@@ -66,7 +67,7 @@ same-length : tie.Need-same-length
 same-length c = ap length (written c) ∙ put-all-length bookRows (bookNumbers _) _
 
 returns-2 : tie.Need-returns-2
-returns-2 c = turns-book (start c .args .b) (fields (start c)) _ _ (written c)
+returns-2 c = (turns-book (start c .args .b) (fields (start c)) _ _ (written c), written c ∙ sym (put-here _ _ _ (c .before .before .before .before .before .before .before .before .before .before .before .before .before .before .before .before .before .before .before .before .before .before .before .before .before .before .before .before .before .before .before .before .before .before .before .before .before .if1 .left)))
 
 pub put-book-spec : {M : Type 1} → statement M
 put-book-spec =

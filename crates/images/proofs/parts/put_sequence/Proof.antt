@@ -1,15 +1,16 @@
 -- Each row is written over the bytes that the rows before it left.
-use mathlib.Core.Path.{_∙_}
+use mathlib.Core.Path.{sym, _∙_}
 use native.Mathlib.Omega.{arith}
 use borrow.Author.Needs.{needs}
 use Rattle.places.specs.Places.{putBe, putAll}
 use Rattle.images.specs.Holds.{HeldSequence}
+use Rattle.images.proofs.Buffers.{put-here, put-nowhere}
 use Rattle.images.proofs.InPlace.{turns-sequence, holds-length}
 use Rattle.images.proofs.parts.put_sequence.Statement.{statement}
 use Rattle.images.proofs.parts.put_sequence.Tie as tie
 
 returns : tie.Need-returns
-returns c st h = absurd (c .if1 .taken (holds-length h))
+returns c = ((λ st h. absurd (c .if1 .taken (holds-length h))), sym (put-nowhere _ _ _ (c .if1 .taken)))
 
 stage-number-requires : tie.Need-stage-number-requires
 stage-number-requires c κs = search needs
@@ -51,7 +52,8 @@ returns-2 c =
     let e3 = c .before .before .before .before .before .before .before .before .before .before .before .before .put-u162 .ensures ∙ (λ i. putBe 2 (q .clock) (e2 i) 92) in
     let e4 = c .before .before .before .before .before .before .before .put-u82 .ensures ∙ (λ i. putBe 1 (c .before .before .before .before .before .before .before .before .error-number .ensures i) (e3 i) 94) in
     let f : HeldSequence q = record { timer = omega (arith, c .before .before .before .before .before .before .before .before .before .before .before .before .before .before .before .before .before .stage-timer .ensures); clock = omega arith } in
-    turns-sequence q f _ _ (c .before .before .put-u83 .ensures ∙ (λ i. putBe 1 (c .before .before .before .judgement-number .ensures i) (e4 i) 95))
+    let e = c .before .before .put-u83 .ensures ∙ (λ i. putBe 1 (c .before .before .before .judgement-number .ensures i) (e4 i) 95) in
+    (turns-sequence q f _ _ e, e ∙ sym (put-here _ _ _ (c .before .before .before .before .before .before .before .before .before .before .before .before .before .before .before .before .before .before .before .before .before .before .before .before .if1 .left)))
 
 pub put-sequence-spec : {M : Type 1} → statement M
 put-sequence-spec =

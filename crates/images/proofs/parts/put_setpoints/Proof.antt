@@ -1,15 +1,16 @@
 -- Each row is written over the bytes that the rows before it left.
-use mathlib.Core.Path.{_∙_}
+use mathlib.Core.Path.{sym, _∙_}
 use native.Mathlib.Omega.{arith}
 use borrow.Author.Needs.{needs}
 use Rattle.places.specs.Places.{putBe, putAll}
 use Rattle.images.specs.Holds.{HeldSetpoints}
+use Rattle.images.proofs.Buffers.{put-here, put-nowhere}
 use Rattle.images.proofs.InPlace.{turns-setpoints, holds-length}
 use Rattle.images.proofs.parts.put_setpoints.Statement.{statement}
 use Rattle.images.proofs.parts.put_setpoints.Tie as tie
 
 returns : tie.Need-returns
-returns c st h = absurd (c .if1 .taken (holds-length h))
+returns c = ((λ st h. absurd (c .if1 .taken (holds-length h))), sym (put-nowhere _ _ _ (c .if1 .taken)))
 
 put-u32-requires : tie.Need-put-u32-requires
 put-u32-requires c κs = search needs
@@ -49,7 +50,8 @@ returns-2 c =
     let e4 = c .before .before .before .before .before .before .before .before .before .before .before .before .before .before .put-u324 .ensures ∙ (λ i. putBe 4 (p .optional) (e3 i) 72) in
     let e5 = c .before .before .before .before .before .before .before .before .before .before .put-u325 .ensures ∙ (λ i. putBe 4 (p .over) (e4 i) 76) in
     let e6 = c .before .before .before .before .before .before .put-u326 .ensures ∙ (λ i. putBe 4 (p .under) (e5 i) 80) in
-    turns-setpoints p (fields a) _ _ (c .before .before .put-u327 .ensures ∙ (λ i. putBe 4 (p .near) (e6 i) 84))
+    let e = c .before .before .put-u327 .ensures ∙ (λ i. putBe 4 (p .near) (e6 i) 84) in
+    (turns-setpoints p (fields a) _ _ e, e ∙ sym (put-here _ _ _ (c .before .before .before .before .before .before .before .before .before .before .before .before .before .before .before .before .before .before .before .before .before .before .before .before .before .before .before .before .if1 .left)))
 
 pub put-setpoints-spec : {M : Type 1} → statement M
 put-setpoints-spec =

@@ -1,12 +1,17 @@
 -- Each field is the number at its place, a line a row.
+use Prim.Native.Nat.{ℕ}
+use mathlib.Core.List.{List}
+use mathlib.Core.Path.{sym, ap, _∙_}
 use borrow.Author.Needs.{needs}
-use Rattle.places.specs.Places.{getAll}
-use Rattle.images.specs.StateImage.{stateAt}
+use Rattle.places.specs.Places.{getAll, beAt}
+use Rattle.images.specs.StateImage.{stateAt, stateLength}
+use Rattle.images.proofs.Buffers.{of-length, of-other}
 use Rattle.images.proofs.parts.setpoints_at.Statement.{statement}
 use Rattle.images.proofs.parts.setpoints_at.Tie as tie
 
 returns : tie.Need-returns
-returns c e = absurd (c .if1 .taken e)
+unfolding stateAt getAll beAt
+returns c = ap (λ (b : List ℕ). stateAt b .setpoints) (sym (of-other stateLength _ (c .if1 .taken)))
 
 u32-at-requires : tie.Need-u32-at-requires
 u32-at-requires c κs = search needs
@@ -31,8 +36,8 @@ u32-at-requires-7 c κs = search needs
 
 returns-2 : tie.Need-returns-2
 unfolding stateAt getAll
-returns-2 c e =
-    λ i. record {
+returns-2 c =
+    (λ i. record {
       target = c .before .before .before .before .before .before .u32-at .ensures i;
       fall = c .before .before .before .before .before .u32-at2 .ensures i;
       preliminary = c .before .before .before .before .u32-at3 .ensures i;
@@ -40,7 +45,8 @@ returns-2 c e =
       over = c .before .before .u32-at5 .ensures i;
       under = c .before .u32-at6 .ensures i;
       near = c .u32-at7 .ensures i;
-    }
+    })
+    ∙ ap (λ (b : List ℕ). stateAt b .setpoints) (sym (of-length stateLength _ (c .before .before .before .before .before .before .before .if1 .left)))
 
 pub setpoints-at-spec : {M : Type 1} → statement M
 setpoints-at-spec =

@@ -1,12 +1,17 @@
 -- Each field is the number at its place, a line a row.
+use Prim.Native.Nat.{ℕ}
+use mathlib.Core.List.{List}
+use mathlib.Core.Path.{sym, ap, _∙_}
 use borrow.Author.Needs.{needs}
-use Rattle.places.specs.Places.{getAll}
-use Rattle.images.specs.StateImage.{stateAt}
+use Rattle.places.specs.Places.{getAll, beAt, flagOf}
+use Rattle.images.specs.StateImage.{stateAt, stateLength}
+use Rattle.images.proofs.Buffers.{of-length, of-other}
 use Rattle.images.proofs.parts.stability_at.Statement.{statement}
 use Rattle.images.proofs.parts.stability_at.Tie as tie
 
 returns : tie.Need-returns
-returns c e = absurd (c .if1 .taken e)
+unfolding stateAt getAll beAt flagOf
+returns c = ap (λ (b : List ℕ). stateAt b .stability) (sym (of-other stateLength _ (c .if1 .taken)))
 
 flag-at-requires : tie.Need-flag-at-requires
 flag-at-requires c κs = search needs
@@ -16,11 +21,12 @@ u16-at-requires c κs = search needs
 
 returns-2 : tie.Need-returns-2
 unfolding stateAt getAll
-returns-2 c e =
-    λ i. record {
+returns-2 c =
+    (λ i. record {
       good = c .before .flag-at .ensures i;
       run = c .u16-at .ensures i;
-    }
+    })
+    ∙ ap (λ (b : List ℕ). stateAt b .stability) (sym (of-length stateLength _ (c .before .before .if1 .left)))
 
 pub stability-at-spec : {M : Type 1} → statement M
 stability-at-spec = tie.close (tie.spec returns flag-at-requires u16-at-requires returns-2)

@@ -1,13 +1,17 @@
 -- Each field is the number at its place, a line a row.
-use mathlib.Core.Path.{_∙_}
+use Prim.Native.Nat.{ℕ}
+use mathlib.Core.List.{List}
+use mathlib.Core.Path.{sym, ap, _∙_}
 use borrow.Author.Needs.{needs}
-use Rattle.places.specs.Places.{getAll}
-use Rattle.images.specs.StateImage.{stateAt, backOf}
+use Rattle.places.specs.Places.{getAll, beAt}
+use Rattle.images.specs.StateImage.{stateAt, backOf, stateLength}
+use Rattle.images.proofs.Buffers.{of-length, of-other}
 use Rattle.images.proofs.parts.totals_at.Statement.{statement}
 use Rattle.images.proofs.parts.totals_at.Tie as tie
 
 returns : tie.Need-returns
-returns c e = absurd (c .if1 .taken e)
+unfolding stateAt getAll beAt backOf
+returns c = ap (λ (b : List ℕ). stateAt b .totals) (sym (of-other stateLength _ (c .if1 .taken)))
 
 u64-at-requires : tie.Need-u64-at-requires
 u64-at-requires c κs = search needs
@@ -26,12 +30,13 @@ back-of-requires c κs = search needs
 
 returns-2 : tie.Need-returns-2
 unfolding stateAt getAll
-returns-2 c e =
-    λ i. record {
+returns-2 c =
+    (λ i. record {
       total = c .before .before .before .before .u64-at .ensures i;
       count = c .before .before .before .u32-at .ensures i;
       back = (c .back-of .ensures ∙ (λ j. backOf (c .before .before .u8-at .ensures j) (c .before .u64-at2 .ensures j))) i;
-    }
+    })
+    ∙ ap (λ (b : List ℕ). stateAt b .totals) (sym (of-length stateLength _ (c .before .before .before .before .before .if1 .left)))
 
 pub totals-at-spec : {M : Type 1} → statement M
 totals-at-spec =

@@ -3,24 +3,32 @@ use mathlib.Core.Path.{_≡_, sym, ap, _∙_}
 use lib.ListN.{length}
 use borrow.Author.Tests.{not-true, not-false}
 use borrow.Author.Needs.{needs}
+use Rattle.types.specs.declared.machine.State.{State}
 use Rattle.outline.specs.Settings.{settingsOf}
 use Rattle.images.specs.StateImage.{stateLength, stateAt}
-use Rattle.images.specs.GivenImage.{givenAt}
+use Rattle.images.specs.GivenImage.{givenLength, givenAt}
 use Rattle.images.specs.Possible.{bookPossible, weighingPossible, totalsPossible, restPossible}
+use Rattle.images.proofs.Buffers.{part-here, possible-here, possible-no-settings, possible-no-state}
 use Rattle.images.proofs.Tests.{not-book, not-weighing, not-totals, rest}
 use Rattle.images.proofs.possible.is_possible.Statement.{statement}
 use Rattle.images.proofs.possible.is_possible.Tie as tie
+
+-- both images have their lengths
+lengths : (c : tie.After-is-book) →
+    let s = c .before .before .before .before .before .before .args in
+    (length (s .g .now) ≡ givenLength) × (length (s .s .now) ≡ stateLength)
+lengths c = (c .before .before .before .if1 .left, c .before .before .if2 .left)
 
 -- what was judged is the part at its places
 book : (c : tie.After-is-book) →
     let l = c .before .before .before .before .before .before .args .s .now in
     length l ≡ stateLength → c .is-book .result ≡ bookPossible (stateAt l .book)
-book c f = c .is-book .ensures ∙ ap bookPossible (c .before .book-at .ensures f)
+book c f = c .is-book .ensures ∙ ap bookPossible (part-here (λ (t : State). t .book) _ (c .before .book-at .ensures) f)
 
 totals : (c : tie.After-is-totals) →
     let l = c .before .before .before .before .before .before .before .before .before .args .s .now in
     length l ≡ stateLength → c .is-totals .result ≡ totalsPossible (stateAt l .totals)
-totals c f = c .is-totals .ensures ∙ ap totalsPossible (c .before .totals-at .ensures f)
+totals c f = c .is-totals .ensures ∙ ap totalsPossible (part-here (λ (t : State). t .totals) _ (c .before .totals-at .ensures) f)
 
 weighing : (c : tie.After-is-weighing) →
     let s = c .before .before .before .before .before .before .before .before .before .before .before .before .args in
@@ -28,13 +36,13 @@ weighing : (c : tie.After-is-weighing) →
     length (s .s .now) ≡ stateLength → c .is-weighing .result ≡ weighingPossible (g .range) (g .tracking) (stateAt (s .s .now) .weighing)
 weighing c f =
     let g = settingsOf (givenAt (c .before .before .before .before .before .before .before .before .before .before .before .before .args .g .now)) in
-    c .is-weighing .ensures ∙ ap (weighingPossible (g .range) (g .tracking)) (c .before .weighing-at .ensures f)
+    c .is-weighing .ensures ∙ ap (weighingPossible (g .range) (g .tracking)) (part-here (λ (t : State). t .weighing) _ (c .before .weighing-at .ensures) f)
 
 returns : tie.Need-returns
-returns c e f = absurd (c .if1 .taken e)
+returns c = sym (possible-no-settings _ _ (c .if1 .taken))
 
 returns-2 : tie.Need-returns-2
-returns-2 c e f = absurd (c .if2 .taken f)
+returns-2 c = sym (possible-no-state _ _ (c .before .if1 .left) (c .if2 .taken))
 
 book-at-requires : tie.Need-book-at-requires
 book-at-requires c κs = search needs
@@ -43,7 +51,9 @@ is-book-requires : tie.Need-is-book-requires
 is-book-requires c κs = search needs
 
 returns-3 : tie.Need-returns-3
-returns-3 c e f = not-book _ _ (sym (book (c .before) f) ∙ not-true _ (c .if3 .taken))
+returns-3 c =
+    let k = lengths (c .before) in
+    not-book _ _ (sym (book (c .before) (k .1)) ∙ not-true _ (c .if3 .taken)) ∙ sym (possible-here _ _ (k .0) (k .1))
 
 totals-at-requires : tie.Need-totals-at-requires
 totals-at-requires c κs = search needs
@@ -52,7 +62,9 @@ is-totals-requires : tie.Need-is-totals-requires
 is-totals-requires c κs = search needs
 
 returns-4 : tie.Need-returns-4
-returns-4 c e f = not-totals _ _ (sym (totals (c .before) f) ∙ not-true _ (c .if4 .taken))
+returns-4 c =
+    let k = lengths (c .before .before .before .before) in
+    not-totals _ _ (sym (totals (c .before) (k .1)) ∙ not-true _ (c .if4 .taken)) ∙ sym (possible-here _ _ (k .0) (k .1))
 
 weighing-at-requires : tie.Need-weighing-at-requires
 weighing-at-requires c κs = search needs
@@ -61,7 +73,9 @@ is-weighing-requires : tie.Need-is-weighing-requires
 is-weighing-requires c κs = search needs
 
 returns-5 : tie.Need-returns-5
-returns-5 c e f = not-weighing _ _ (sym (weighing (c .before) f) ∙ not-true _ (c .if5 .taken))
+returns-5 c =
+    let k = lengths (c .before .before .before .before .before .before .before) in
+    not-weighing _ _ (sym (weighing (c .before) (k .1)) ∙ not-true _ (c .if5 .taken)) ∙ sym (possible-here _ _ (k .0) (k .1))
 
 stability-at-requires : tie.Need-stability-at-requires
 stability-at-requires c κs = search needs
@@ -76,17 +90,19 @@ is-rest-requires : tie.Need-is-rest-requires
 is-rest-requires c κs = search needs
 
 returns-6 : tie.Need-returns-6
-returns-6 c e f =
+returns-6 c =
     let e5 = c .before .before .before .before in
     let e4 = e5 .before .before .before in
     let e3 = e4 .before .before .before in
     let s = e3 .before .before .before .before .before .before .before .args in
+    let k = lengths (e3 .before) in
+    let f = k .1 in
     let st = stateAt (s .s .now) in
-    let at = e3 .before .before .book-at .ensures f in
-    let scales = e5 .before .before .weighing-at .ensures f in
-    let q = c .before .before .before .stability-at .ensures f in
-    let p = c .before .before .setpoints-at .ensures f in
-    let x = c .before .sequence-at .ensures f in
+    let at = part-here (λ (t : State). t .book) _ (e3 .before .before .book-at .ensures) f in
+    let scales = part-here (λ (t : State). t .weighing) _ (e5 .before .before .weighing-at .ensures) f in
+    let q = part-here (λ (t : State). t .stability) _ (c .before .before .before .stability-at .ensures) f in
+    let p = part-here (λ (t : State). t .setpoints) _ (c .before .before .setpoints-at .ensures) f in
+    let x = part-here (λ (t : State). t .sequence) _ (c .before .sequence-at .ensures) f in
     let g = settingsOf (givenAt (s .g .now)) in
     c .is-rest .ensures
     ∙ (λ i. restPossible g (q i) (p i) (x i) (at i .begun) (scales i .counter))
@@ -94,6 +110,7 @@ returns-6 c e f =
     (sym (book (e3 .before) f) ∙ not-false _ (e3 .if3 .left))
     (sym (totals (e4 .before) f) ∙ not-false _ (e4 .if4 .left))
     (sym (weighing (e5 .before) f) ∙ not-false _ (e5 .if5 .left))
+    ∙ sym (possible-here _ _ (k .0) f)
 
 pub is-possible-spec : {M : Type 1} → statement M
 is-possible-spec =

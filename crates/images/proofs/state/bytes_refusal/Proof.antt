@@ -5,6 +5,8 @@ use borrow.Author.Tests.{not-true, not-false}
 use borrow.Author.Needs.{needs}
 use Rattle.places.specs.Places.{getAll, sameBytes, gaps, zerosIn}
 use Rattle.images.specs.StateImage.{stateLength, stateRows, stateNumbers, imageOf, stateAt}
+use Rattle.types.specs.declared.machine.State.{State}
+use Rattle.images.proofs.Buffers.{part-here}
 use Rattle.images.proofs.Tests.{bytes-length, bytes-other, bytes-same}
 use Rattle.images.proofs.Read.{state-again}
 use Rattle.images.proofs.state.bytes_refusal.Statement.{statement}
@@ -30,8 +32,10 @@ totals-at-requires c κs = search needs
 
 is-read-whole-requires : tie.Need-is-read-whole-requires
 is-read-whole-requires c κs =
-    let n = c .before .before .if1 .left in
-    (c .before .sequence-at .ensures n, c .totals-at .ensures n)
+    let n = c .before .before .if1 .left in (
+      part-here (λ (t : State). t .sequence) _ (c .before .sequence-at .ensures) n,
+      part-here (λ (t : State). t .totals) _ (c .totals-at .ensures) n,
+    )
 
 returns-2 : tie.Need-returns-2
 returns-2 c =
