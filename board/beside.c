@@ -14,6 +14,8 @@
 /* The peer's calls have the header's names, and are compiled under these. `struct calls` takes both, so that the compiler tells where these
  * lines fall behind the header. */
 uint32_t peer_open(const uint8_t *settings, size_t settings_len, uint8_t *state, size_t state_len);
+uint32_t peer_grow(const uint8_t *settings, size_t settings_len, const uint8_t *earlier, size_t earlier_len, uint8_t *state,
+                   size_t state_len);
 uint32_t peer_tick(const uint8_t *settings, size_t settings_len, uint8_t *state, size_t state_len, int32_t count, bool contact,
                    uint32_t request, const uint32_t *points, size_t points_len, uint8_t *answer, size_t answer_len);
 uint32_t peer_line(const uint8_t *settings, size_t settings_len, uint8_t *state, size_t state_len, int32_t count, bool contact,
@@ -21,14 +23,15 @@ uint32_t peer_line(const uint8_t *settings, size_t settings_len, uint8_t *state,
 uint32_t peer_block(const uint8_t *settings, size_t settings_len, uint8_t *state, size_t state_len, const int32_t *counts,
                     size_t counts_len, bool contact);
 
-static const struct calls peer = {peer_open, peer_tick, peer_line, peer_block};
+static const struct calls peer = {peer_open, peer_grow, peer_tick, peer_line, peer_block};
 
 enum { PER_CHECK = 1000, CALLS = 12, RUNS = 120, RUN_CALLS = 4000, COUNTS = 24, STAGES = 17, ERRORS = 11, TOLD_LIMIT = 20 };
 
 static unsigned long passed, failed;
 
 static struct {
-    unsigned long images, taken, refused_21, refused_10, calls, run_calls, blocks, lines, batches, discharges, refills, days;
+    unsigned long images, taken, refused_21, refused_10, calls, grown, run_calls, blocks, lines, batches, discharges, refills, days;
+    unsigned long waiting, waited, came;
     unsigned long at_stage[STAGES], at_error[ERRORS];
 } seen;
 
@@ -50,8 +53,8 @@ static void tell_byte(const struct lent *ours, const struct lent *theirs)
         size_t at;
     } buffers[] = {
         {"receive", offsetof(struct lent, receive)}, {"reply", offsetof(struct lent, reply)}, {"answer", offsetof(struct lent, answer)},
-        {"state", offsetof(struct lent, state)}, {"settings", offsetof(struct lent, settings)}, {"front", offsetof(struct lent, front)},
-        {"points", offsetof(struct lent, points)},
+        {"state", offsetof(struct lent, state)}, {"earlier", offsetof(struct lent, earlier)},
+        {"settings", offsetof(struct lent, settings)}, {"front", offsetof(struct lent, front)}, {"points", offsetof(struct lent, points)},
     };
     const uint8_t *a = (const uint8_t *)ours, *b = (const uint8_t *)theirs;
     size_t at = 0;
@@ -69,7 +72,7 @@ static void tell_byte(const struct lent *ours, const struct lent *theirs)
 /* The call by both on the same bytes. Where they agree l goes on with what they left. */
 static bool agree(struct lent *l, const struct call *c, uint32_t *told, const char *where, unsigned long number, int call)
 {
-    static const char *const names[KINDS] = {"open", "tick", "line", "block"};
+    static const char *const names[KINDS] = {"open", "grow", "tick", "line", "block"};
     struct lent ours, theirs;
     uint32_t peer_told;
 
@@ -94,17 +97,32 @@ static bool agree(struct lent *l, const struct call *c, uint32_t *told, const ch
 
 static int32_t counts[PRESSGULLY_BLOCK + 1];
 
-/* Any call, and now and then one with lengths or bytes that no caller should give. */
+/* A growth does not ask what the state's bytes are, nor what is behind an earlier image. */
+static void draw_over(struct lent *l)
+{
+    size_t i;
+
+    for (i = 0; i < PRESSGULLY_STATE; i++)
+        l->state[i] = (uint8_t)draw();
+    for (i = PRESSGULLY_STATE_A3; i < sizeof l->earlier; i++)
+        l->earlier[i] = (uint8_t)draw_from(0, 2);
+}
+
+/* Any call, and now and then one with lengths or bytes that no caller should give. What grows is the image as it was lent, altered or not. */
 static struct call any_call(struct lent *l, bool first)
 {
-    struct call c = first && one_in(16) ? open_call() : draw_call(l, counts, COUNTS);
+    struct call c = first && one_in(16) ? open_call() : first && one_in(8) ? grow_call() : draw_call(l, counts, COUNTS);
 
+    if (c.kind == GROW)
+        draw_over(l);
     if (c.kind == LINE && c.receive_len > 0 && one_in(8))
         l->receive[draw() % c.receive_len] = (uint8_t)draw();
     if (c.kind == BLOCK && first && one_in(64))
         c.counts_len = PRESSGULLY_BLOCK + draw() % 2;
     if (one_in(32))
         c.settings_len = draw() % (PRESSGULLY_SETTINGS + 8);
+    if (one_in(32))
+        c.earlier_len = one_in(4) ? PRESSGULLY_STATE : draw() % (PRESSGULLY_STATE + 8);
     if (one_in(32))
         c.state_len = draw() % (PRESSGULLY_STATE + 8);
     if (one_in(16))
@@ -128,12 +146,14 @@ static bool one_image(uint64_t number)
         counts[i] = (int32_t)draw_from(setting(settings, SETTING_ZERO_COUNT), setting(settings, SETTING_SPAN_COUNT));
     lend(&l, settings, state);
     seen.images++;
+    seen.waiting += state[256] == 1;
     for (i = 0; i < CALLS; i++) {
         const struct call c = any_call(&l, i == 0);
 
         seen.calls++;
         if (!agree(&l, &c, &told, "image", (unsigned long)number, i))
             return false;
+        seen.grown += c.kind == GROW && told == 0;
         if (told == 21 || told == 10) { /* the images' own fault: so are all that follow */
             seen.refused_21 += told == 21;
             seen.refused_10 += told == 10;
@@ -193,6 +213,8 @@ static void note(const uint8_t *before, const struct lent *l, const struct call 
     seen.batches += state_number(state, STATE_BATCHES) > state_number(before, STATE_BATCHES);
     seen.discharges += before[88] == 16 && state[88] == 0 && state[94] == 0;
     seen.refills += state_number(state, STATE_REFILLED) > state_number(before, STATE_REFILLED);
+    seen.waited += state[256] == 1;
+    seen.came += before[256] == 1 && state[256] == 0;
     seen.days += (c->kind == TICK || c->kind == LINE) && l->answer[14] == 1;
 }
 
@@ -238,14 +260,15 @@ static void came_through(void)
 {
     static const uint8_t stages[] = {0, 3, 4, 5, 6, 7, 8, 9, 10, 11, 14, 15, 16}, errors[] = {0, 1, 2, 4, 6, 7, 8, 9};
     unsigned i;
-    bool all = seen.batches > 0 && seen.discharges > 0 && seen.refills > 0 && seen.days > 0 && seen.lines > 0 && seen.blocks > 0;
+    bool all = seen.batches > 0 && seen.discharges > 0 && seen.refills > 0 && seen.days > 0 && seen.lines > 0 && seen.blocks > 0
+            && seen.waited > 0 && seen.came > 0;
 
     for (i = 0; i < sizeof stages; i++)
         all = all && seen.at_stage[stages[i]] > 0;
     for (i = 0; i < sizeof errors; i++)
         all = all && seen.at_error[errors[i]] > 0;
     if (!all && failed == 0)
-        puts("beside: the runs did not come to every stage and error, a batch, a discharge, a refill and a day's close");
+        puts("beside: the runs did not come to every stage and error, a batch, a discharge, a refill, a day's close and setpoints that waited");
     count_check(all);
 }
 
@@ -267,10 +290,11 @@ int main(int argc, char **argv)
     for (i = 0; i < RUNS; i++)
         count_check(one_run(i));
     came_through();
-    printf("beside: %lu images: %lu went on, %lu told 21, %lu told 10; %lu calls\n", seen.images, seen.taken, seen.refused_21, seen.refused_10,
-           seen.calls);
-    printf("beside: %d runs: %lu calls, %lu of them lines and %lu blocks; %lu batches, %lu discharges, %lu days closed, refilled in %lu\n", RUNS,
-           seen.run_calls, seen.lines, seen.blocks, seen.batches, seen.discharges, seen.days, seen.refills);
+    printf("beside: %lu images, %lu of them with setpoints waiting: %lu went on, %lu told 21, %lu told 10; %lu calls; %lu earlier images grew\n",
+           seen.images, seen.waiting, seen.taken, seen.refused_21, seen.refused_10, seen.calls, seen.grown);
+    printf("beside: %d runs: %lu calls, %lu of them lines and %lu blocks; %lu batches, %lu discharges, %lu days closed, refilled in %lu, "
+           "setpoints waited in %lu and came into use in %lu\n",
+           RUNS, seen.run_calls, seen.lines, seen.blocks, seen.batches, seen.discharges, seen.days, seen.refills, seen.waited, seen.came);
     printf("%lu passed, %lu failed\n", passed, failed);
     return failed == 0 ? 0 : 1;
 }

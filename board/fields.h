@@ -19,7 +19,8 @@ enum state_field {
     STATE_OPENING, STATE_LAST, STATE_REFILLED, STATE_USED, STATE_UNBOOKED, STATE_TICKS, STATE_BEGUN, STATE_CONTACT, STATE_LAST_GOOD,
     STATE_RUN, STATE_ZERO, STATE_TRACKED, STATE_TARE, STATE_COUNTER, STATE_SHOWS_NET, STATE_FINAL, STATE_FREE_FALL, STATE_PRELIMINARY,
     STATE_OPTIONAL, STATE_OVER, STATE_UNDER, STATE_NEAR_ZERO, STATE_STAGE, STATE_LASTED, STATE_CLOCK, STATE_ERROR, STATE_JUDGEMENT,
-    STATE_TOTAL, STATE_BATCHES, STATE_UNDO, STATE_UNDO_WEIGHT, STATE_FIELDS
+    STATE_TOTAL, STATE_BATCHES, STATE_UNDO, STATE_UNDO_WEIGHT, STATE_WAITS, STATE_WAITING_FINAL, STATE_WAITING_FREE_FALL,
+    STATE_WAITING_PRELIMINARY, STATE_WAITING_OPTIONAL, STATE_WAITING_OVER, STATE_WAITING_UNDER, STATE_WAITING_NEAR_ZERO, STATE_FIELDS
 };
 
 enum answer_field {
@@ -29,7 +30,8 @@ enum answer_field {
 };
 
 struct field {
-    uint8_t place, width;
+    uint16_t place;
+    uint8_t width;
     bool sign;
 };
 
@@ -39,6 +41,7 @@ static const struct field state_fields[STATE_FIELDS] = {
     {40, 1, false}, {42, 2, false}, {44, 4, true}, {48, 4, true}, {52, 4, true}, {56, 2, false}, {58, 1, false}, {60, 4, false},
     {64, 4, false}, {68, 4, false}, {72, 4, false}, {76, 4, false}, {80, 4, false}, {84, 4, false}, {88, 1, false}, {90, 2, false},
     {92, 2, false}, {94, 1, false}, {95, 1, false}, {96, 8, false}, {104, 4, false}, {108, 1, false}, {112, 8, false},
+    {256, 1, false}, {260, 4, false}, {264, 4, false}, {268, 4, false}, {272, 4, false}, {276, 4, false}, {280, 4, false}, {284, 4, false},
 };
 
 static const struct field answer_fields[ANSWER_FIELDS] = {
@@ -81,7 +84,7 @@ static inline struct field setting_field(enum setting s)
 {
     struct field f = {0, 4, true};
 
-    f.place = (uint8_t)(4 * s);
+    f.place = (uint16_t)(4 * s);
     return f;
 }
 

@@ -106,6 +106,15 @@ static char gate(const uint8_t *answer, enum answer_field f, char letter)
     return answer_number(answer, f) != 0 ? letter : '-';
 }
 
+/* Seven numbers, the first of which is this field. */
+static void print_points(const char *key, const uint8_t *state, enum state_field first)
+{
+    int i;
+
+    for (i = 0; i < PRESSGULLY_POINTS; i++)
+        printf("%s%" PRId64, i == 0 ? key : ",", state_number(state, (enum state_field)(first + i)));
+}
+
 static void print_state(const uint8_t *state)
 {
     static const struct {
@@ -114,13 +123,17 @@ static void print_state(const uint8_t *state)
     } shown[] = {
         {" zero=", STATE_ZERO}, {" tracked=", STATE_TRACKED}, {" tare=", STATE_TARE}, {" opening=", STATE_OPENING},
         {" refilled=", STATE_REFILLED}, {" used=", STATE_USED}, {" unbooked=", STATE_UNBOOKED}, {" last=", STATE_LAST},
-        {" total=", STATE_TOTAL}, {" batches=", STATE_BATCHES}, {" setpoints=", STATE_FINAL}, {",", STATE_FREE_FALL},
-        {",", STATE_PRELIMINARY}, {",", STATE_OPTIONAL}, {",", STATE_OVER}, {",", STATE_UNDER}, {",", STATE_NEAR_ZERO},
+        {" total=", STATE_TOTAL}, {" batches=", STATE_BATCHES},
     };
     size_t i;
 
     for (i = 0; i < sizeof shown / sizeof shown[0]; i++)
         printf("%s%" PRId64, shown[i].key, state_number(state, shown[i].field));
+    print_points(" setpoints=", state, STATE_FINAL);
+    if (state_number(state, STATE_WAITS) == 1)
+        print_points(" waiting=", state, STATE_WAITING_FINAL);
+    else
+        printf(" waiting=-");
     putchar('\n');
 }
 

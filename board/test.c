@@ -41,6 +41,7 @@ int main(int argc, char **argv)
         }
     }
     test_fields();
+    test_grow(2000 + images / 10);
     test_order();
     test_figures();
     test_runs();

@@ -21,17 +21,18 @@ struct lent {
     uint32_t points[PRESSGULLY_POINTS + 1];
     uint8_t front[16];
     uint8_t settings[PRESSGULLY_SETTINGS + 32];
+    uint8_t earlier[PRESSGULLY_STATE + 32]; /* room for what is no earlier image */
     uint8_t state[PRESSGULLY_STATE + 32];
     uint8_t answer[PRESSGULLY_ANSWER + 32];
     uint8_t reply[PRESSGULLY_REPLY + 32];
     uint8_t receive[128];
 };
 
-enum kind { OPEN, TICK, LINE, BLOCK, KINDS };
+enum kind { OPEN, GROW, TICK, LINE, BLOCK, KINDS };
 
 struct call {
     enum kind kind;
-    size_t settings_len, state_len, answer_len, reply_len, receive_len, points_len, counts_len;
+    size_t settings_len, earlier_len, state_len, answer_len, reply_len, receive_len, points_len, counts_len;
     int32_t count;
     bool contact;
     uint32_t request;
@@ -40,7 +41,7 @@ struct call {
 
 /* Where the buffers of a call are. */
 struct buffers {
-    const uint8_t *settings;
+    const uint8_t *settings, *earlier;
     uint8_t *state;
     const uint32_t *points;
     const uint8_t *receive;
@@ -48,9 +49,11 @@ struct buffers {
     const int32_t *counts;
 };
 
-/* The four calls, since a program may have them twice (beside.c). */
+/* The five calls, since a program may have them twice (beside.c). */
 struct calls {
     uint32_t (*open)(const uint8_t *settings, size_t settings_len, uint8_t *state, size_t state_len);
+    uint32_t (*grow)(const uint8_t *settings, size_t settings_len, const uint8_t *earlier, size_t earlier_len, uint8_t *state,
+                     size_t state_len);
     uint32_t (*tick)(const uint8_t *settings, size_t settings_len, uint8_t *state, size_t state_len, int32_t count, bool contact,
                      uint32_t request, const uint32_t *points, size_t points_len, uint8_t *answer, size_t answer_len);
     uint32_t (*line)(const uint8_t *settings, size_t settings_len, uint8_t *state, size_t state_len, int32_t count, bool contact,
@@ -67,10 +70,12 @@ struct outcome {
     bool refused; /* no tick was run */
 };
 
-/* Fresh buffers with these images; what no image fills has a byte that is neither 0 nor 255. */
+/* Fresh buffers with these images, the state's first 256 bytes as the earlier one too; what no image fills has a byte that is neither 0 nor
+ * 255. */
 void lend(struct lent *l, const uint8_t *settings, const uint8_t *state);
 
 struct call open_call(void);
+struct call grow_call(void);
 struct call tick_call(int32_t count, bool contact, uint32_t request);
 struct call line_call(struct lent *l, int32_t count, bool contact, const char *line); /* the line goes with CR LF to the receive buffer */
 struct call block_call(const int32_t *counts, size_t n, bool contact);
@@ -102,9 +107,16 @@ bool settings_fit(const uint8_t *settings);
 /* What images of the right lengths are told: 21, 10, or 0. */
 uint32_t told_of(const uint8_t *settings, const uint8_t *state);
 
+/* The present image of an earlier one, whether possible or not: its bytes, and 0. */
+void put_grown(uint8_t *state, const uint8_t *earlier);
+
 /* What holds after every tick: the table, and what the answer's outputs have to do with the state and with each other. NULL, or what does
  * not hold. */
 const char *untrue(const uint8_t *settings, const uint8_t *state, const uint8_t *answer);
+
+/* What a tick does with the setpoints: a write waits in every stage but 0, and what waits is in use after the tick that returns there; a
+ * finish is judged by those before. `written` are those of an accepted write, else NULL. NULL, or what does not hold. */
+const char *astray(const struct lent *before, const struct lent *after, const uint32_t *written);
 
 /* ---- At random, from a seed (test_random.c) ---- */
 
@@ -143,6 +155,7 @@ extern const int32_t settings_large[SETTINGS];                /* every range at 
 /* ---- The subjects, a file each ---- */
 
 void test_fields(void);                /* every row of the state's table at its ends */
+void test_grow(uint64_t images);       /* an earlier image and what becomes of it; so many of them at random */
 void test_order(void);                 /* which refusal comes first; settings, lengths, buffers, requests */
 void test_figures(void);               /* the outline's figures, read in the images and answers */
 void test_runs(void);                  /* a line is its request, a block its ticks; every byte of images on the way altered */

@@ -10,6 +10,7 @@ void lend(struct lent *l, const uint8_t *settings, const uint8_t *state)
 {
     memset(l, STALE, sizeof *l);
     memcpy(l->settings, settings, PRESSGULLY_SETTINGS);
+    memcpy(l->earlier, state, PRESSGULLY_STATE_A3);
     memcpy(l->state, state, PRESSGULLY_STATE);
 }
 
@@ -20,6 +21,7 @@ static struct call plain(enum kind kind)
     memset(&c, 0, sizeof c);
     c.kind = kind;
     c.settings_len = PRESSGULLY_SETTINGS;
+    c.earlier_len = PRESSGULLY_STATE_A3;
     c.state_len = PRESSGULLY_STATE;
     c.answer_len = PRESSGULLY_ANSWER;
     c.reply_len = PRESSGULLY_REPLY;
@@ -29,6 +31,11 @@ static struct call plain(enum kind kind)
 struct call open_call(void)
 {
     return plain(OPEN);
+}
+
+struct call grow_call(void)
+{
+    return plain(GROW);
 }
 
 struct call tick_call(int32_t count, bool contact, uint32_t request)
@@ -83,13 +90,15 @@ struct call as_line(struct lent *l, const struct call *c)
     return line_call(l, c->count, c->contact, line);
 }
 
-const struct calls library = {pressgully_open, pressgully_tick, pressgully_line, pressgully_block};
+const struct calls library = {pressgully_open, pressgully_grow, pressgully_tick, pressgully_line, pressgully_block};
 
 uint32_t made(const struct calls *by, const struct buffers *b, const struct call *c)
 {
     switch (c->kind) {
     case OPEN:
         return by->open(b->settings, c->settings_len, b->state, c->state_len);
+    case GROW:
+        return by->grow(b->settings, c->settings_len, b->earlier, c->earlier_len, b->state, c->state_len);
     case TICK:
         return by->tick(b->settings, c->settings_len, b->state, c->state_len, c->count, c->contact, c->request, b->points, c->points_len,
                         b->answer, c->answer_len);
@@ -123,7 +132,7 @@ void clear(struct lent *l)
 
 uint32_t made_on(const struct calls *by, struct lent *l, const struct call *c)
 {
-    const struct buffers b = {l->settings, l->state, l->points, l->receive, l->reply, l->answer, c->counts};
+    const struct buffers b = {l->settings, l->earlier, l->state, l->points, l->receive, l->reply, l->answer, c->counts};
 
     return made(by, &b, c);
 }

@@ -27,16 +27,18 @@ static void release(void *copy)
 static bool does_the_same(const struct lent *lent, const struct lent *left, const struct call *c, uint32_t told)
 {
     static const int32_t no_counts[1];
-    uint8_t *settings = copied(lent->settings, c->settings_len), *state = copied(lent->state, c->state_len);
+    uint8_t *settings = copied(lent->settings, c->settings_len), *earlier = copied(lent->earlier, c->earlier_len);
+    uint8_t *state = copied(lent->state, c->state_len);
     uint32_t *points = copied(lent->points, c->points_len * sizeof points[0]);
     uint8_t *receive = copied(lent->receive, c->receive_len), *reply = copied(lent->reply, c->reply_len);
     uint8_t *answer = copied(lent->answer, c->answer_len);
     int32_t *counts = copied(c->kind == BLOCK ? c->counts : no_counts, c->counts_len * sizeof counts[0]);
-    const struct buffers b = {settings, state, points, receive, reply, answer, counts};
+    const struct buffers b = {settings, earlier, state, points, receive, reply, answer, counts};
     const bool same = made(&library, &b, c) == told && memcmp(state, left->state, c->state_len) == 0
                    && memcmp(answer, left->answer, c->answer_len) == 0 && memcmp(reply, left->reply, c->reply_len) == 0;
 
     release(settings);
+    release(earlier);
     release(state);
     release(points);
     release(receive);
@@ -60,9 +62,11 @@ static bool one_call(uint64_t number)
     if (one_in(4))
         alter(settings, state);
     lend(&l, settings, state);
-    c = one_in(16) ? open_call() : draw_call(&l, counts, COUNTS);
+    c = one_in(16) ? open_call() : one_in(8) ? grow_call() : draw_call(&l, counts, COUNTS);
     if (one_in(16))
         c.settings_len = draw() % (PRESSGULLY_SETTINGS + 8);
+    if (one_in(16))
+        c.earlier_len = draw() % (PRESSGULLY_STATE + 8);
     if (one_in(16))
         c.state_len = draw() % (PRESSGULLY_STATE + 8);
     if (one_in(4))

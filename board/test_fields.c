@@ -11,8 +11,9 @@ struct image {
 
 static const int64_t DAY = 8640000;
 
-/* The image as each call reads it: possible, or refused with 21 and nothing changed. An empty block leaves a possible one as it is. */
-static void expect(const struct image *m, bool possible, const char *what)
+/* The image as a tick, a line and a block read it: possible, or refused with 21 and nothing changed. An empty block leaves a possible one as
+ * it is. */
+static bool is_taken(const struct image *m, bool possible)
 {
     static const int32_t no_counts[1];
     bool held = true;
@@ -29,6 +30,31 @@ static void expect(const struct image *m, bool possible, const char *what)
         held = held && o.kept && (possible ? !o.refused : o.told == 21); /* with an address the line is told 12 */
         held = held && (kind != BLOCK || memcmp(l.state, m->state, PRESSGULLY_STATE) == 0);
     }
+    return held;
+}
+
+/* Its first 256 bytes as an earlier image, of which it is made again. */
+static bool is_grown(const struct image *m, bool possible)
+{
+    struct lent l;
+    struct call c = grow_call();
+    struct outcome o;
+
+    lend(&l, m->settings, m->state);
+    memset(l.state, 0x5a, PRESSGULLY_STATE);
+    o = run(&l, &c);
+    return o.kept && o.told == (possible ? 0 : 21) && (!possible || memcmp(l.state, m->state, PRESSGULLY_STATE) == 0);
+}
+
+/* An image with nothing but 0 behind the 256th byte is what an earlier one becomes: as possible as that. */
+static void expect(const struct image *m, bool possible, const char *what)
+{
+    uint8_t grown[PRESSGULLY_STATE];
+    bool held = is_taken(m, possible);
+
+    put_grown(grown, m->state);
+    if (memcmp(grown, m->state, sizeof grown) == 0)
+        held = held && is_grown(m, possible);
     check(held, "fields: %s: %s", what, possible ? "possible, but not taken as it stands" : "impossible, but not refused with 21");
 }
 
@@ -87,12 +113,26 @@ static struct image in_stage(const int32_t *settings, int stage)
     return m;
 }
 
+/* The same with other setpoints waiting. */
+static struct image with_waiting(const int32_t *settings, int stage)
+{
+    static const int32_t points[PRESSGULLY_POINTS] = {2000, 30, 200, 500, 7, 8, 90};
+    struct image m = in_stage(settings, stage);
+    int i;
+
+    put_state(m.state, STATE_WAITS, 1);
+    for (i = 0; i < PRESSGULLY_POINTS; i++)
+        put_state(m.state, (enum state_field)(STATE_WAITING_FINAL + i), points[i]);
+    return m;
+}
+
 static void unused_bytes(void)
 {
-    const struct image m = usual(settings_timed);
+    const struct image m = usual(settings_timed), waiting = with_waiting(settings_timed, 8);
     unsigned place, unused = 0;
 
     expect(&m, true, "the image that the others come from");
+    expect(&waiting, true, "the image with setpoints waiting");
     for (place = 0; place < PRESSGULLY_STATE; place++) {
         struct image n = m;
         char what[40];
@@ -105,12 +145,15 @@ static void unused_bytes(void)
         expect(&n, false, what);
         n.state[place] = 128;
         expect(&n, false, what);
-        if (place > 120) { /* two that a sum would cancel */
+        if (place > 120 && place < 256) { /* two that a sum would cancel */
             n.state[120 + (place - 120) % 8] = 128;
             expect(&n, false, what);
         }
+        n = waiting;
+        n.state[place] = 1;
+        expect(&n, false, what);
     }
-    check(unused == 144, "fields: %u unused bytes instead of 144", unused); /* 38, 39, 41, 59, 89, 109 to 111, 120 to 255 */
+    check(unused == 147, "fields: %u unused bytes instead of 147", unused); /* 38, 39, 41, 59, 89, 109 to 111, 120 to 255, 257 to 259 */
 }
 
 /* ---- The day ---- */
@@ -373,17 +416,21 @@ static void zeros(void)
 
 /* ---- Setpoints ---- */
 
+/* In use, and waiting beside others. */
 static void expect_points(const int32_t *settings, const int32_t *points, bool possible)
 {
-    struct image m = usual(settings);
+    struct image m = usual(settings), waiting = with_waiting(settings, 11);
     char what[100] = "setpoints";
     int i;
 
     for (i = 0; i < PRESSGULLY_POINTS; i++) {
         put_state(m.state, (enum state_field)(STATE_FINAL + i), points[i]);
+        put_state(waiting.state, (enum state_field)(STATE_WAITING_FINAL + i), points[i]);
         sprintf(what + strlen(what), " %ld", (long)points[i]);
     }
     expect(&m, possible, what);
+    strcat(what, " waiting");
+    expect(&waiting, possible, what);
 }
 
 static void setpoints(void)
@@ -437,6 +484,68 @@ static void setpoints(void)
 static bool is_stage(int n, int mode)
 {
     return n == 0 || n == 3 || (n >= 6 && n <= 11) || (mode == 1 && (n == 4 || n == 5 || (n >= 14 && n <= 16)));
+}
+
+/* In every stage but 0 setpoints may wait, also such as would not lead to that stage; where none wait their numbers are 0. */
+static void waiting_in(int mode, int stage)
+{
+    struct image m = with_waiting(settings_timed, stage), none = in_stage(settings_timed, stage);
+    int i;
+
+    put_setting(m.settings, SETTING_MODE, mode);
+    put_setting(none.settings, SETTING_MODE, mode);
+    expect_number(&m, STATE_WAITS, 0, false); /* numbers, but of none */
+    expect_number(&m, STATE_WAITS, 1, stage != 0);
+    for (i = 1; i < 8; i++)
+        expect_number(&m, STATE_WAITS, 1 << i, false);
+    ends(&none, STATE_WAITS, 0, stage == 0 ? 0 : 1); /* seven times 0 are setpoints as well */
+    expect_number(&none, STATE_WAITS, 255, false);
+    for (i = STATE_WAITING_FINAL; i <= STATE_WAITING_NEAR_ZERO; i++) {
+        ends(&none, (enum state_field)i, 0, 0);
+        expect_number(&none, (enum state_field)i, 0x1000000, false);
+    }
+    if (stage == 0)
+        return;
+    for (i = STATE_WAITING_OVER; i <= STATE_WAITING_NEAR_ZERO; i++)
+        ends(&m, (enum state_field)i, 0, 999999);
+    ends(&m, STATE_WAITING_FINAL, mode == 1 ? 500 : 200, 999999); /* at least OP in mode 1, at least P in mode 2 */
+    ends(&m, STATE_WAITING_FREE_FALL, 0, 199);
+    ends(&m, STATE_WAITING_OPTIONAL, mode == 1 ? 201 : 0, mode == 1 ? 2000 : 999999);
+    put_state(m.state, STATE_WAITING_OPTIONAL, 0);
+    ends(&m, STATE_WAITING_PRELIMINARY, 31, 2000);
+}
+
+static void waiting(void)
+{
+    static const struct {
+        int stage;
+        enum state_field in_use, waiting; /* what the stage needs in use is not there where it waits */
+    } needs[] = {
+        {4, STATE_OPTIONAL, STATE_WAITING_OPTIONAL}, {5, STATE_OPTIONAL, STATE_WAITING_OPTIONAL},
+        {6, STATE_PRELIMINARY, STATE_WAITING_PRELIMINARY}, {7, STATE_PRELIMINARY, STATE_WAITING_PRELIMINARY},
+    };
+    unsigned i;
+    int mode, stage;
+
+    for (mode = 1; mode <= 2; mode++)
+        for (stage = 0; stage <= 16; stage++)
+            if (is_stage(stage, mode))
+                waiting_in(mode, stage);
+    for (i = 0; i < 4; i++) {
+        struct image m = with_waiting(settings_timed, needs[i].stage);
+
+        expect_number(&m, needs[i].waiting, 0, true);
+        expect_number(&m, needs[i].in_use, 0, false);
+    }
+    for (stage = 8; stage <= 11; stage++) {
+        struct image m = with_waiting(settings_timed, stage);
+        int f;
+
+        for (f = STATE_FREE_FALL; f <= STATE_OPTIONAL; f++)
+            put_state(m.state, (enum state_field)f, 0);
+        expect(&m, true, "F alone, and others waiting");
+        expect_number(&m, STATE_FINAL, 0, false);
+    }
 }
 
 /* The stages that setpoints have, as characters, stage by stage: + possible. */
@@ -556,5 +665,6 @@ void test_fields(void)
     setpoints();
     stages();
     flow_stages();
+    waiting();
     totals();
 }

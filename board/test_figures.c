@@ -14,7 +14,7 @@ static void open_with(const int32_t *numbers)
     struct outcome o;
 
     put_settings(settings, numbers);
-    memset(state, 0x5a, sizeof state);
+    memset(state, 1, sizeof state); /* yes to all that is yes or no, to setpoints that wait too */
     lend(&on, settings, state);
     o = run(&on, &c);
     check(o.kept && o.told == 0, "figures: the opening");
@@ -183,16 +183,17 @@ static void days(void)
     shows(ANSWER_CLOSING, -2000, "closing");
 }
 
+static void write_set(int32_t count, const uint32_t *set, uint32_t due)
+{
+    memcpy(on.points, set, PRESSGULLY_POINTS * sizeof set[0]);
+    told(tick(count, false, PRESSGULLY_SET), due, "setpoints");
+}
+
 static void write_points(uint32_t F, uint32_t FF, uint32_t P, uint32_t OP, uint32_t near_zero, uint32_t due)
 {
-    on.points[0] = F;
-    on.points[1] = FF;
-    on.points[2] = P;
-    on.points[3] = OP;
-    on.points[4] = 5;
-    on.points[5] = 6;
-    on.points[6] = near_zero;
-    told(tick(0, false, PRESSGULLY_SET), due, "setpoints");
+    const uint32_t set[PRESSGULLY_POINTS] = {F, FF, P, OP, 5, 6, near_zero};
+
+    write_set(0, set, due);
 }
 
 static void at_stage(int32_t count, int stage, const char *gates)
@@ -299,6 +300,341 @@ static void discharge(void)
     shows(ANSWER_NEAR_ZERO, 1, "near zero at 50");
 }
 
+/* ---- Setpoints that wait ---- */
+
+/* Of a batch of 1,000, which it is judged by, and of those that are written meanwhile: the first with P and OP, the second without. A near
+ * zero of 2,000 is on at every weight here, one of 50 at hardly any. */
+static const uint32_t batch_set[PRESSGULLY_POINTS] = {1000, 20, 100, 300, 5, 6, 50};
+static const uint32_t next_set[PRESSGULLY_POINTS] = {600, 10, 60, 200, 1, 2, 2000};
+static const uint32_t other_set[PRESSGULLY_POINTS] = {800, 10, 0, 0, 3, 4, 2000};
+static const uint32_t broken_set[PRESSGULLY_POINTS] = {1000, 20, 20, 0, 5, 6, 50};
+static const uint32_t empty_set[PRESSGULLY_POINTS];
+
+static void has_set(enum state_field first, const uint32_t *due)
+{
+    int i;
+
+    for (i = 0; i < PRESSGULLY_POINTS; i++)
+        keeps((enum state_field)(first + i), due[i]);
+}
+
+static void in_use(const uint32_t *due)
+{
+    has_set(STATE_FINAL, due);
+}
+
+static void waits(const uint32_t *due)
+{
+    keeps(STATE_WAITS, 1);
+    has_set(STATE_WAITING_FINAL, due);
+}
+
+static void none_wait(void)
+{
+    keeps(STATE_WAITS, 0);
+    has_set(STATE_WAITING_FINAL, empty_set);
+}
+
+/* Returned to 00 with this error, and what waited is in use. */
+static void ended(int error, const uint32_t *due)
+{
+    keeps(STATE_STAGE, 0);
+    keeps(STATE_ERROR, error);
+    in_use(due);
+    none_wait();
+}
+
+/* A batch in its large flow, delays 0. */
+static void begin_batch(void)
+{
+    open_with(settings_a);
+    write_set(0, batch_set, 0);
+    told(tick(0, false, PRESSGULLY_START), 0, "start");
+    at_stage(0, 4, "LMS-");
+    at_stage(0, 5, "LMS-");
+}
+
+static void rest_of_batch(void)
+{
+    at_stage(6994, 5, "LMS-"); /* 699: F - OP is 700 by the batch's own, 400 by the next */
+    at_stage(7000, 6, "-MS-");
+    at_stage(7000, 7, "-MS-");
+    at_stage(8994, 7, "-MS-");
+    at_stage(9000, 8, "--S-");
+    at_stage(9000, 9, "--S-");
+    at_stage(9794, 9, "--S-");
+    at_stage(9800, 10, "----");
+    at_stage(10040, 11, "----");
+    hold(10040, 99); /* the tick after these is the 100th of one weight: stable */
+    keeps(STATE_STAGE, 11);
+}
+
+/* 1,004 is ok by 1,000 and 5, and over by the sets that wait. */
+static void finished(const uint32_t *due)
+{
+    shows(ANSWER_STAGE, 0, "stage of a finish");
+    shows(ANSWER_JUDGEMENT, 1, "judgement by the batch's own setpoints");
+    shows(ANSWER_NEAR_ZERO, due[6] >= 1004, "near zero by the setpoints in use after the finish");
+    keeps(STATE_TOTAL, 1004);
+    ended(0, due);
+}
+
+static void waits_for_finish(void)
+{
+    begin_batch();
+    write_set(0, next_set, 0);
+    in_use(batch_set);
+    waits(next_set);
+    line(0, "RS", 0, "000600000010000060000200000001000002002000\r\n");
+    line(0, "SS000800000010000000000000000003000004002000", 0, "SS\r\n"); /* in the other's place */
+    in_use(batch_set);
+    waits(other_set);
+    write_set(0, broken_set, 6);
+    waits(other_set);
+    told(tick(0, false, PRESSGULLY_TARE_CLEAR), 3, "tare clear in a batch");
+    rest_of_batch();
+    in_use(batch_set);
+    waits(other_set);
+    line(10040, "RS", 0, "000800000010000000000000000003000004002000\r\n"); /* in the finishing tick */
+    finished(other_set);
+    line(0, "RS", 0, "000800000010000000000000000003000004002000\r\n");
+    told(tick(0, false, PRESSGULLY_START), 0, "start");
+    line(0, "RS", 0, "000800000010000000000000000003000004002000\r\n");
+    shows(ANSWER_STAGE, 8, "stage without P and OP");
+    none_wait();
+}
+
+/* Neither a write in 00 nor one in a discharge takes the judgement away. */
+static void judgement_stays(void)
+{
+    begin_batch();
+    rest_of_batch();
+    hold(10040, 1);
+    finished(batch_set);
+    write_set(10040, next_set, 0);
+    keeps(STATE_JUDGEMENT, 1);
+    in_use(next_set);
+    none_wait();
+    told(tick(30000, false, PRESSGULLY_DISCHARGE), 0, "discharge");
+    write_set(30000, other_set, 0);
+    keeps(STATE_STAGE, 15);
+    keeps(STATE_JUDGEMENT, 1);
+    told(tick(30000, false, PRESSGULLY_STOP), 0, "stop");
+    keeps(STATE_JUDGEMENT, 1);
+    ended(7, other_set);
+}
+
+/* A write in the tick that finishes: nothing, or others, waiting till then. */
+static void written_in_finish(void)
+{
+    int i;
+
+    for (i = 0; i < 3; i++) {
+        begin_batch();
+        if (i > 0)
+            write_set(0, other_set, 0);
+        rest_of_batch();
+        write_set(10040, i < 2 ? next_set : broken_set, i < 2 ? 0 : 6);
+        finished(i < 2 ? next_set : other_set);
+    }
+    begin_batch();
+    rest_of_batch();
+    write_set(10040, broken_set, 6);
+    finished(batch_set);
+}
+
+/* In every stage of a batch, with delays, so that the write does not meet a stage's end. */
+static void waits_in_every_stage(void)
+{
+    static const struct {
+        int32_t count;
+        int stage;
+    } ways[] = {{0, 3}, {0, 4}, {0, 5}, {7000, 6}, {7000, 7}, {9000, 8}, {9000, 9}, {9800, 10}, {10040, 11}};
+    unsigned i;
+    int t;
+
+    open_with(settings_timed);
+    write_set(0, batch_set, 0);
+    told(tick(0, false, PRESSGULLY_START), 0, "start");
+    for (i = 0; i < sizeof ways / sizeof ways[0]; i++) {
+        for (t = 0; t < 30 && on.state[88] != ways[i].stage; t++)
+            tick(ways[i].count, false, PRESSGULLY_NOTHING);
+        keeps(STATE_STAGE, ways[i].stage);
+        write_set(ways[i].count, i % 2 ? next_set : other_set, 0);
+        keeps(STATE_STAGE, ways[i].stage);
+        in_use(batch_set);
+        waits(i % 2 ? next_set : other_set);
+    }
+}
+
+/* Each error of a batch but 4. Those that step 6 finds are by the old set, also in the tick of the write. */
+static void waits_for_errors(void)
+{
+    open_with(settings_a);
+    told(tick(0, false, PRESSGULLY_START), 0, "start without setpoints");
+    write_set(0, batch_set, 0);
+    ended(1, batch_set);
+    told(tick(9800, false, PRESSGULLY_START), 0, "start at F - FF");
+    write_set(9800, next_set, 0);
+    ended(2, next_set);
+    begin_batch();
+    write_set(0, next_set, 0);
+    at_stage(100085, 0, "----");
+    ended(9, next_set);
+    begin_batch();
+    write_set(0, other_set, 0);
+    write_set(2000001, next_set, 0); /* a write is not refused in a bad tick */
+    ended(9, next_set);
+    open_a(SETTING_FLOW_LIMIT, 3);
+    write_set(0, batch_set, 0);
+    told(tick(0, false, PRESSGULLY_START), 0, "start");
+    write_set(0, other_set, 0);
+    hold(0, 3);
+    keeps(STATE_CLOCK, 3);
+    waits(other_set);
+    line(0, "RS", 0, "000800000010000000000000000003000004002000\r\n");
+    ended(6, other_set);
+    begin_batch();
+    rest_of_batch();
+    put_state(on.state, STATE_TOTAL, 99999999);
+    write_set(10040, next_set, 0);
+    keeps(STATE_JUDGEMENT, 1);
+    keeps(STATE_TOTAL, 99999999);
+    ended(10, next_set);
+}
+
+/* Near zero and full of the stop's own tick are by the new set. */
+static void waits_for_stop(void)
+{
+    static const uint32_t full_400[PRESSGULLY_POINTS] = {1000, 0, 0, 400, 0, 0, 50}, full_300[PRESSGULLY_POINTS] = {900, 0, 0, 300, 0, 0, 60};
+
+    begin_batch();
+    write_set(4000, next_set, 0);
+    shows(ANSWER_NEAR_ZERO, 0, "near zero at 400");
+    told(tick(4000, false, PRESSGULLY_STOP), 0, "stop");
+    shows(ANSWER_NEAR_ZERO, 1, "near zero in the stop's tick");
+    ended(4, next_set);
+    open_a(SETTING_MODE, 2);
+    write_set(3500, full_400, 0);
+    told(tick(3500, false, PRESSGULLY_START), 0, "start");
+    write_set(3500, full_300, 0);
+    shows(ANSWER_FULL, 0, "full at 350");
+    waits(full_300);
+    told(tick(3500, false, PRESSGULLY_STOP), 0, "stop");
+    shows(ANSWER_FULL, 1, "full in the stop's tick");
+    ended(4, full_300);
+}
+
+/* A discharge by the near zero of 50 in use, of which a set with 600 waits: it is not over at 500. */
+static void begin_discharge(const uint32_t *waiting)
+{
+    open_a(SETTING_DISCHARGE_LIMIT, 3);
+    write_points(0, 0, 0, 0, 50, 0);
+    told(tick(5000, false, PRESSGULLY_DISCHARGE), 0, "discharge");
+    write_set(5000, waiting, 0);
+    keeps(STATE_STAGE, 15);
+    waits(waiting);
+    at_stage(5000, 15, "---D");
+    shows(ANSWER_NEAR_ZERO, 0, "near zero at 500");
+}
+
+static void waits_for_discharge(void)
+{
+    static const uint32_t near_600[PRESSGULLY_POINTS] = {700, 0, 0, 0, 0, 0, 600};
+
+    begin_discharge(near_600);
+    at_stage(500, 16, "---D");
+    line(5000, "RS", 0, "000700000000000000000000000000000000000600\r\n"); /* in the tick that ends it */
+    shows(ANSWER_NEAR_ZERO, 1, "near zero at 500 after the discharge");
+    ended(0, near_600);
+    begin_discharge(near_600);
+    at_stage(500, 16, "---D");
+    write_set(500, next_set, 0);
+    ended(0, next_set);
+    begin_discharge(near_600);
+    told(tick(5000, false, PRESSGULLY_STOP), 0, "stop");
+    shows(ANSWER_NEAR_ZERO, 1, "near zero in the stop's tick");
+    ended(7, near_600);
+    begin_discharge(near_600);
+    hold(5000, 2);
+    waits(near_600);
+    hold(5000, 1); /* the clock passes its limit */
+    ended(8, near_600);
+    begin_discharge(near_600);
+    at_stage(-2000001, 0, "----");
+    ended(9, near_600);
+}
+
+/* Setpoints that are accepted and some that are not, without room for what they are told: neither is done. */
+static void written_without_room(void)
+{
+    static const char *const lines[] = {"SS000800000010000000000000000003000004002000", "SS001000000020000020000000000005000006000050"};
+    struct call c;
+    int i;
+
+    for (i = 0; i < 2; i++) {
+        c = line_call(&on, 0, false, lines[i]);
+        c.reply_len = 3;
+        told(run(&on, &c), 14, "setpoints without room for their reply");
+        in_use(batch_set);
+        none_wait();
+    }
+}
+
+/* In 00 a write is in use at once, and a stop there brings nothing. */
+static void waits_for_nothing(void)
+{
+    begin_batch();
+    written_without_room();
+    line(0, "RS", 0, "001000000020000100000300000005000006000050\r\n");
+    told(tick(0, false, PRESSGULLY_STOP), 0, "stop with none waiting");
+    ended(4, batch_set);
+    write_set(0, next_set, 0);
+    ended(4, next_set);
+    told(tick(0, false, PRESSGULLY_STOP), 0, "stop in 00");
+    ended(4, next_set);
+}
+
+/* The power goes after every tick of a batch with setpoints waiting: other buffers with the images alone go on as the first ones do. */
+static void power_cuts(void)
+{
+    static const int32_t counts[] = {7000, 7000, 9000, 9000, 9800, 10040};
+    struct lent other;
+    unsigned t;
+
+    begin_batch();
+    write_set(0, next_set, 0);
+    lend(&other, on.settings, on.state);
+    for (t = 0; t < 106; t++) {
+        uint8_t settings[PRESSGULLY_SETTINGS], state[PRESSGULLY_STATE];
+        const struct call c = tick_call(counts[t < 6 ? t : 5], false, PRESSGULLY_NOTHING);
+        const struct outcome o = run(&on, &c), again = run(&other, &c);
+
+        check(o.kept && again.kept && o.told == 0 && again.told == 0 && memcmp(on.state, other.state, PRESSGULLY_STATE) == 0
+                  && memcmp(on.answer, other.answer, PRESSGULLY_ANSWER) == 0,
+              "figures: after a power cut tick %u differs", t);
+        memcpy(settings, other.settings, sizeof settings);
+        memcpy(state, other.state, sizeof state);
+        lend(&other, settings, state);
+        if (t < 105)
+            waits(next_set);
+    }
+    finished(next_set);
+}
+
+static void waiting(void)
+{
+    waits_for_finish();
+    written_in_finish();
+    judgement_stays();
+    waits_in_every_stage();
+    waits_for_errors();
+    waits_for_stop();
+    waits_for_discharge();
+    waits_for_nothing();
+    power_cuts();
+}
+
 /* A board's value at a count, in the bits of its double. */
 static void analog_at(int32_t count, int kind, uint64_t bits)
 {
@@ -357,6 +693,7 @@ void test_figures(void)
     full_totals(99999000, 5, false);
     full_totals(5, 99999999, false);
     discharge();
+    waiting();
     analog();
     addressed_lines();
 }

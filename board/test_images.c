@@ -9,13 +9,26 @@
 enum { PER_CHECK = 1000, TICKS = 20, COUNTS = 24 };
 
 static struct {
-    unsigned long all, altered, taken, altered_taken, impossible, outside, ticks;
+    unsigned long all, altered, taken, altered_taken, impossible, outside, ticks, waited, came;
 } seen;
 
 /* ---- A bad tick, worked out from the outline ---- */
 
+static void put_points(uint8_t *state, enum state_field first, const int64_t *points)
+{
+    int i;
+
+    for (i = 0; i < PRESSGULLY_POINTS; i++)
+        put_state(state, (enum state_field)(first + i), points[i]);
+}
+
+/* Where setpoints wait they come into use. */
 static void put_no_batch(uint8_t *state, int error)
 {
+    if (state[256] == 1) {
+        memcpy(state + 60, state + 260, 4 * PRESSGULLY_POINTS);
+        memset(state + 256, 0, 32);
+    }
     put_state(state, STATE_STAGE, 0);
     put_state(state, STATE_LASTED, 0);
     put_state(state, STATE_CLOCK, 0);
@@ -37,12 +50,10 @@ static uint32_t ask_set(const uint8_t *settings, uint8_t *state, const uint32_t 
 
     for (i = 0; i < PRESSGULLY_POINTS; i++)
         numbers[i] = points[i];
-    if (state[88] != 0)
-        return 3;
     if (!setpoints_fit((int)setting(settings, SETTING_MODE), numbers))
         return 6;
-    for (i = 0; i < PRESSGULLY_POINTS; i++)
-        put_state(state, (enum state_field)(STATE_FINAL + i), numbers[i]);
+    put_points(state, state[88] == 0 ? STATE_FINAL : STATE_WAITING_FINAL, numbers);
+    put_state(state, STATE_WAITS, state[88] != 0);
     return 0;
 }
 
@@ -130,11 +141,14 @@ static const char *goes_on(struct lent *l)
     for (i = 0; i < COUNTS; i++)
         counts[i] = (int32_t)draw_from(setting(l->settings, SETTING_ZERO_COUNT), setting(l->settings, SETTING_SPAN_COUNT));
     for (i = 0; i < TICKS; i++) {
+        const struct lent before = *l;
         const struct call c = draw_call(l, counts, COUNTS);
         const struct outcome o = run(l, &c);
         const char *fault;
 
         seen.ticks++;
+        seen.waited += l->state[256];
+        seen.came += before.state[256] == 1 && l->state[256] == 0;
         if (o.refused)
             return "refused an image that it wrote";
         if (!o.kept)
@@ -145,6 +159,8 @@ static const char *goes_on(struct lent *l)
             continue;
         }
         fault = untrue(l->settings, l->state, l->answer);
+        if (fault == NULL && c.kind == TICK)
+            fault = astray(&before, l, c.request == PRESSGULLY_SET && o.told == 0 ? l->points : NULL);
         if (fault != NULL)
             return fault;
     }
@@ -207,6 +223,8 @@ void test_images(uint64_t images)
     /* an alteration that is refused at sight tries little of what follows */
     check(seen.altered < 100 || 10 * seen.altered_taken >= seen.altered, "images: %lu of %lu altered images are possible", seen.altered_taken,
           seen.altered);
-    printf("test: %lu images at random, %lu of them altered: %lu possible (%lu of the altered), %lu told 21, %lu told 10; %lu calls went on\n",
-           seen.all, seen.altered, seen.taken, seen.altered_taken, seen.impossible, seen.outside, seen.ticks);
+    check(seen.all < 100 || seen.came > 0, "images: no waiting setpoints came into use");
+    printf("test: %lu images at random, %lu of them altered: %lu possible (%lu of the altered), %lu told 21, %lu told 10; %lu calls went on, "
+           "after %lu setpoints waited, and in %lu they came into use\n",
+           seen.all, seen.altered, seen.taken, seen.altered_taken, seen.impossible, seen.outside, seen.ticks, seen.waited, seen.came);
 }

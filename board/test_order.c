@@ -21,6 +21,7 @@ static struct call any_call(struct lent *l, enum kind kind)
 {
     switch (kind) {
     case OPEN: return open_call();
+    case GROW: return grow_call();
     case TICK: return tick_call(0, false, PRESSGULLY_NOTHING);
     case LINE: return line_call(l, 0, false, "RW");
     default: return block_call(zeros, 1, false);
@@ -29,10 +30,13 @@ static struct call any_call(struct lent *l, enum kind kind)
 
 /* ---- The order ---- */
 
-/* Every choice of faults: the first in the order is told. An opening does not ask what the state's bytes are. */
+/* Every choice of faults: the first in the order is told. An opening does not ask what the state's bytes are, nor does a growth, which asks
+ * the earlier image's. */
 static void faults(void)
 {
-    enum { SETTINGS_LENGTH = 1, STATE_LENGTH = 2, SETTINGS_BYTE = 4, STATE_FIELD = 8, SETTING = 16, ROOM = 32, CHOICES = 64 };
+    enum {
+        SETTINGS_LENGTH = 1, EARLIER_LENGTH = 2, STATE_LENGTH = 4, SETTINGS_BYTE = 8, STATE_FIELD = 16, SETTING = 32, ROOM = 64, CHOICES = 128
+    };
     int kind;
     unsigned chosen;
 
@@ -45,7 +49,7 @@ static void faults(void)
 
             lend_a(&l);
             c = any_call(&l, (enum kind)kind);
-            if (chosen & ROOM && kind != OPEN) { /* of the answer, or a block too long */
+            if (chosen & ROOM && kind >= TICK) { /* of the answer, or a block too long */
                 due = kind == BLOCK ? 15 : 14;
                 c.answer_len = PRESSGULLY_ANSWER - 1;
                 c.counts_len = PRESSGULLY_BLOCK + 1;
@@ -56,7 +60,7 @@ static void faults(void)
             }
             if (chosen & STATE_FIELD) {
                 due = kind == OPEN ? due : 21;
-                put_state(l.state, STATE_TARE, -1);
+                put_state(kind == GROW ? l.earlier : l.state, STATE_TARE, -1);
             }
             if (chosen & SETTINGS_BYTE) {
                 due = 21;
@@ -65,6 +69,10 @@ static void faults(void)
             if (chosen & STATE_LENGTH) {
                 due = 20;
                 c.state_len = PRESSGULLY_STATE - 1;
+            }
+            if (chosen & EARLIER_LENGTH) { /* that of a present image */
+                due = kind == GROW ? 20 : due;
+                c.earlier_len = PRESSGULLY_STATE;
             }
             if (chosen & SETTINGS_LENGTH) {
                 due = 20;
@@ -78,12 +86,12 @@ static void faults(void)
 
 static void lengths(void)
 {
-    static const size_t settings_lens[] = {0, 1, 99, 100, 127, 129, 160}, state_lens[] = {0, 1, 120, 128, 255, 257, 288};
+    static const size_t settings_lens[] = {0, 1, 99, 100, 127, 129, 144, 160}, state_lens[] = {0, 1, 128, 255, 256, 287, 289, 320};
     int kind;
     unsigned i;
 
     for (kind = OPEN; kind < KINDS; kind++)
-        for (i = 0; i < 7; i++) {
+        for (i = 0; i < 8; i++) {
             struct lent l;
             struct call c;
             struct outcome o;
@@ -102,7 +110,7 @@ static void lengths(void)
 
 /* ---- Settings ---- */
 
-/* All calls on these settings and an opening's state, and an opening over bytes of any kind. */
+/* All calls on these settings and an opening's state, and an opening and a growth over bytes of any kind. */
 static void expect_settings(const uint8_t *settings, uint32_t due, const char *what)
 {
     bool held = true;
@@ -114,12 +122,12 @@ static void expect_settings(const uint8_t *settings, uint32_t due, const char *w
         struct outcome o;
 
         lend(&l, settings, opened);
-        if (kind == OPEN)
+        if (kind == OPEN || kind == GROW)
             memset(l.state, 0x5a, PRESSGULLY_STATE);
         c = any_call(&l, (enum kind)kind);
         o = run(&l, &c);
         held = held && o.kept && (due == 0 ? !o.refused : o.told == due);
-        if (kind == OPEN && due == 0)
+        if ((kind == OPEN || kind == GROW) && due == 0)
             held = held && memcmp(l.state, opened, PRESSGULLY_STATE) == 0;
     }
     check(held, "order: %s: not told %u by every call", what, (unsigned)due);
@@ -294,6 +302,13 @@ static void judged_as_given(void)
         put_state(l.state, STATE_OPTIONAL, 1); /* full, with a final of 0 */
         o = run(&l, &c);
         check(o.kept && o.told == (more == 1 ? 21 : more == 2 ? 0 : 10), "order: full in mode %d: told %u", more, (unsigned)o.told);
+        lend_a(&l);
+        put_setting(l.settings, SETTING_MODE, more);
+        put_stage(&l, 3);
+        put_state(l.state, STATE_WAITS, 1);
+        put_state(l.state, STATE_WAITING_OPTIONAL, 1);
+        o = run(&l, &c);
+        check(o.kept && o.told == (more == 1 ? 21 : more == 2 ? 0 : 10), "order: full waits in mode %d: told %u", more, (unsigned)o.told);
     }
 }
 
@@ -318,21 +333,23 @@ static void expect_no_request(uint32_t request, size_t points)
           "order: request %lu with %u points: told %u", (unsigned long)request, (unsigned)points, (unsigned)o.told);
 }
 
-static void expect_points(const uint32_t *points, uint32_t due)
+/* Written in stage 0, where they are in use at once, and in a start delay of two ticks, where they wait. */
+static void expect_points(const uint32_t *points, int stage, uint32_t due)
 {
-    struct lent l;
+    struct lent l, before;
     struct call c = tick_call(0, false, PRESSGULLY_SET);
     struct outcome o;
-    bool held;
-    int i;
+    const char *fault;
 
     lend_a(&l);
+    put_setting(l.settings, SETTING_START_DELAY, 2);
+    put_stage(&l, stage);
     memcpy(l.points, points, PRESSGULLY_POINTS * sizeof points[0]);
+    before = l;
     o = run(&l, &c);
-    held = o.kept && o.told == due;
-    for (i = 0; i < PRESSGULLY_POINTS; i++)
-        held = held && state_number(l.state, (enum state_field)(STATE_FINAL + i)) == (due == 0 ? (int64_t)points[i] : 0);
-    check(held, "order: setpoints %lu, .., %lu: told %u", (unsigned long)points[0], (unsigned long)points[6], (unsigned)o.told);
+    fault = astray(&before, &l, due == 0 ? points : NULL);
+    check(o.kept && o.told == due && l.state[88] == stage && fault == NULL, "order: setpoints %lu, .., %lu in stage %d: told %u, %s",
+          (unsigned long)points[0], (unsigned long)points[6], stage, (unsigned)o.told, fault == NULL ? "as it is due" : fault);
 }
 
 static void requests(void)
@@ -352,8 +369,10 @@ static void requests(void)
     expect_no_request(256 + PRESSGULLY_START, 0);
     expect_no_request(0x80000000u, 7);
     expect_no_request(UINT32_MAX, 7);
-    for (i = 0; i < 8; i++)
-        expect_points(points[i], i < 2 ? 0 : 6);
+    for (i = 0; i < 8; i++) {
+        expect_points(points[i], 0, i < 2 ? 0 : 6);
+        expect_points(points[i], 3, i < 2 ? 0 : 6);
+    }
     for (i = 0; i <= PRESSGULLY_POINTS + 1; i++) { /* no other request looks at its points */
         struct lent l;
         struct call c = tick_call(0, false, PRESSGULLY_START);

@@ -35,6 +35,8 @@ static uint32_t request_of(const struct lent *l)
 
     if (l->state[88] == 0 && one_in(20))
         return idle[draw() % sizeof idle];
+    if (l->state[88] != 0 && one_in(60))
+        return PRESSGULLY_SET; /* for the next batch */
     return one_in(200) ? (uint32_t)(draw() % 13) : PRESSGULLY_NOTHING;
 }
 

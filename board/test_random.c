@@ -212,6 +212,17 @@ static void draw_totals(uint8_t *state)
     }
 }
 
+static void draw_waiting(const uint8_t *settings, uint8_t *state)
+{
+    int64_t points[PRESSGULLY_POINTS];
+    int i;
+
+    draw_points(setting(settings, SETTING_MODE) == 1 ? 1 : 2, points);
+    put_state(state, STATE_WAITS, 1);
+    for (i = 0; i < PRESSGULLY_POINTS; i++)
+        put_state(state, (enum state_field)(STATE_WAITING_FINAL + i), points[i]);
+}
+
 void draw_state(const uint8_t *settings, uint8_t *state)
 {
     int64_t points[PRESSGULLY_POINTS];
@@ -222,6 +233,8 @@ void draw_state(const uint8_t *settings, uint8_t *state)
     for (i = 0; i < PRESSGULLY_POINTS; i++)
         put_state(state, (enum state_field)(STATE_FINAL + i), points[i]);
     draw_sequence(settings, state);
+    if (state_number(state, STATE_STAGE) != 0 && one_in(2))
+        draw_waiting(settings, state);
     draw_day(state);
     draw_weighing(settings, state);
     draw_totals(state);
@@ -260,10 +273,12 @@ static void alter_tied(uint8_t *state)
 {
     int i;
 
-    switch (draw() % 4) {
+    switch (draw() % 6) {
     case 0: put_state(state, STATE_STAGE, (int64_t)(draw() % 17)); break;
     case 1: put_state(state, one_in(2) ? STATE_PRELIMINARY : STATE_OPTIONAL, 0); break;
     case 2: put_state(state, one_in(2) ? STATE_LAST_GOOD : STATE_BEGUN, draw_from(0, 1)); break;
+    case 3: put_state(state, STATE_WAITS, draw_from(0, 2)); break;
+    case 4: memset(state + state_fields[STATE_WAITING_FINAL].place, 0, 4 * PRESSGULLY_POINTS); break; /* a set that may well wait */
     default:
         for (i = STATE_FINAL; i <= STATE_OPTIONAL; i++)
             put_state(state, (enum state_field)i, 0);
@@ -280,7 +295,7 @@ void alter(uint8_t *settings, uint8_t *state)
     case 0: case 1: case 2: case 3: case 4: alter_field(state); break;
     case 5: case 6: shift_day(state); break;
     case 7: state[draw() % PRESSGULLY_STATE] = (uint8_t)draw(); break;
-    case 8: state[draw() % 120] ^= (uint8_t)(1u << draw() % 8); break;
+    case 8: state[one_in(4) ? 256 + draw() % 32 : draw() % 120] ^= (uint8_t)(1u << draw() % 8); break;
     case 9: put_setting(settings, s, setting(settings, s) + draw_from(-1, 1)); break;
     case 10: put_setting(settings, s, (int32_t)draw()); break;
     case 11: put_setting(settings, s, one_in(2) ? 0 : -setting(settings, s)); break; /* judged without its sign, then 10 */

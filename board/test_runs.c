@@ -1,6 +1,6 @@
 /* Runs from an opening: a plant whose weight answers the gates, asked by numbers and by lines. A tick with a request and the line that asks
- * the same are one, a block is its ticks, and every image on the way is read by the next call. Some of them are kept, and each of their
- * bytes altered. */
+ * the same are one, a block is its ticks, every image on the way is read by the next call, and setpoints wait for the end of a batch. Some
+ * images are kept, and each of their bytes altered. */
 #include "test.h"
 
 #include <stdio.h>
@@ -13,8 +13,8 @@ struct image {
 };
 
 /* One for each stage, each error, and each other thing worth altering, as the runs come by. */
-static struct image kept[STAGES + ERRORS + 4];
-static bool is_kept[STAGES + ERRORS + 4];
+static struct image kept[STAGES + ERRORS + 6];
+static bool is_kept[STAGES + ERRORS + 6];
 
 static void keep(int place, const struct lent *l)
 {
@@ -39,6 +39,23 @@ static void keep_worth(const struct lent *l)
         keep(STAGES + ERRORS + 2, l);
     if (state_number(state, STATE_TARE) != 0)
         keep(STAGES + ERRORS + 3, l);
+    if (state[256] == 1)
+        keep(STAGES + ERRORS + (state[88] < 14 ? 4 : 5), l);
+}
+
+/* How setpoints came into use: by finish, each error and the end of a discharge, which has error 0 as a finish has. */
+static bool came_by_finish, came_by_discharge, came_by_error[ERRORS];
+
+static void note_return(const struct lent *before, const struct lent *after)
+{
+    if (before->state[256] == 0 || after->state[88] != 0)
+        return;
+    if (after->state[94] != 0)
+        came_by_error[after->state[94]] = true;
+    else if (before->state[88] == 16)
+        came_by_discharge = true;
+    else
+        came_by_finish = true;
 }
 
 /* The tick by number and by line, and, asked nothing, as a block of one: the same image, the same outputs. l goes on with the first. */
@@ -80,9 +97,15 @@ static void plant_run(int number, int ticks)
     memset(l.answer, 0, sizeof l.answer);
     p = plant_of(settings);
     for (i = 0; i < ticks && held && fault == NULL; i++) {
+        struct lent before;
+
         c = plant_tick(&p, &l);
+        before = l;
         held = is_one(&l, &c);
         fault = untrue(l.settings, l.state, l.answer);
+        if (fault == NULL)
+            fault = astray(&before, &l, c.request == PRESSGULLY_SET && l.answer[0] == 0 ? l.points : NULL);
+        note_return(&before, &l);
         keep_worth(&l);
     }
     check(held && fault == NULL, "runs: run %d differs at tick %d: %s", number, i, fault == NULL ? "by number and by line" : fault);
@@ -156,7 +179,8 @@ static void alter_byte(const struct image *m, int image, unsigned place, unsigne
 static void altered_bytes(void)
 {
     static const uint8_t stages[] = {0, 3, 4, 5, 6, 7, 8, 9, 10, 11, 14, 15, 16}, errors[] = {0, 1, 2, 4, 6, 7, 8, 9};
-    static const int altered[] = {5, 11, 15, STAGES + 6, STAGES + 8, STAGES + ERRORS, STAGES + ERRORS + 1, STAGES + ERRORS + 2};
+    static const int altered[] = {5, 11, 15, STAGES + 6, STAGES + 8, STAGES + ERRORS, STAGES + ERRORS + 1, STAGES + ERRORS + 2,
+                                  STAGES + ERRORS + 4, STAGES + ERRORS + 5};
     unsigned long taken = 0, all = 0;
     unsigned i, place;
 
@@ -164,8 +188,11 @@ static void altered_bytes(void)
         check(is_kept[stages[i]], "runs: no run came through stage %d", stages[i]);
     for (i = 0; i < sizeof errors; i++)
         check(is_kept[STAGES + errors[i]], "runs: no run came to error %d", errors[i]);
-    for (i = STAGES + ERRORS; i < STAGES + ERRORS + 4; i++)
-        check(is_kept[i], "runs: no run had a refill, an undo, a tracked zero or a tare (%u)", i);
+    for (i = 1; i < sizeof errors; i++)
+        check(came_by_error[errors[i]], "runs: no setpoints came into use by error %d", errors[i]);
+    check(came_by_finish && came_by_discharge, "runs: no setpoints came into use by a finish, or by the end of a discharge");
+    for (i = STAGES + ERRORS; i < STAGES + ERRORS + 6; i++)
+        check(is_kept[i], "runs: no run had a refill, an undo, a tracked zero, a tare, or setpoints waiting in a batch or a discharge (%u)", i);
     for (i = 0; i < sizeof altered / sizeof altered[0]; i++)
         for (place = 0; place < PRESSGULLY_STATE; place++)
             alter_byte(&kept[altered[i]], altered[i], place, &taken, &all);

@@ -7,7 +7,8 @@
 const char *const state_names[STATE_FIELDS] = {
     "opening", "last", "refilled", "used", "unbooked", "ticks", "begun", "contact", "last tick good", "run", "zero", "tracked", "tare",
     "tracking counter", "displayed weight", "F", "FF", "P", "OP", "over", "under", "near zero", "stage", "ticks lasted", "clock", "error",
-    "judgement", "total", "batches", "undo", "undo's weight",
+    "judgement", "total", "batches", "undo", "undo's weight", "setpoints wait", "waiting F", "waiting FF", "waiting P", "waiting OP",
+    "waiting over", "waiting under", "waiting near zero",
 };
 
 static const int64_t RAW_LIMIT = 4000000, CHANGE_LIMIT = 8000000, DAY = 8640000, TOTAL_LIMIT = 99999999;
@@ -45,13 +46,13 @@ bool is_unused(unsigned place)
 
 static bool unused_are_0(const uint8_t *state)
 {
-    static const uint8_t places[] = {38, 39, 41, 59, 89, 109, 110, 111};
+    static const uint16_t places[] = {38, 39, 41, 59, 89, 109, 110, 111, 257, 258, 259};
     unsigned i;
 
-    for (i = 0; i < sizeof places; i++)
+    for (i = 0; i < sizeof places / sizeof places[0]; i++)
         if (state[places[i]] != 0)
             return false;
-    for (i = 120; i < PRESSGULLY_STATE; i++)
+    for (i = 120; i < 256; i++)
         if (state[i] != 0)
             return false;
     return true;
@@ -108,14 +109,34 @@ bool setpoints_fit(int mode, const int64_t *points)
     return FF <= F && (P == 0 || (P > FF && P <= F)) && (mode == 2 || OP == 0 || (OP > FF && OP > P && OP <= F));
 }
 
-static bool points_fit(const uint8_t *settings, const uint8_t *state)
+/* The seven numbers from this field on. */
+static void points_at(const uint8_t *state, enum state_field first, int64_t *points)
 {
-    int64_t points[PRESSGULLY_POINTS];
     int i;
 
     for (i = 0; i < PRESSGULLY_POINTS; i++)
-        points[i] = state_number(state, (enum state_field)(STATE_FINAL + i));
+        points[i] = state_number(state, (enum state_field)(first + i));
+}
+
+static bool points_fit(const uint8_t *settings, const uint8_t *state)
+{
+    int64_t points[PRESSGULLY_POINTS];
+
+    points_at(state, STATE_FINAL, points);
     return setpoints_fit(mode_of(settings), points);
+}
+
+static const int64_t no_points[PRESSGULLY_POINTS];
+
+static bool waiting_fits(const uint8_t *settings, const uint8_t *state)
+{
+    const int64_t waits = state_number(state, STATE_WAITS);
+    int64_t points[PRESSGULLY_POINTS];
+
+    points_at(state, STATE_WAITING_FINAL, points);
+    if (waits == 0)
+        return memcmp(points, no_points, sizeof points) == 0;
+    return waits == 1 && state_number(state, STATE_STAGE) != 0 && setpoints_fit(mode_of(settings), points);
 }
 
 /* The setting of a timed stage; 0 for the others. */
@@ -140,7 +161,7 @@ static int64_t clock_limit(const uint8_t *settings, int64_t stage)
     return stage == 15 || stage == 16 ? given(settings, SETTING_DISCHARGE_LIMIT) : 0;
 }
 
-/* A flow stage is one that these setpoints lead to; no write alters them before stage 0. */
+/* A flow stage is one that the setpoints in use lead to; no write alters those before stage 0. */
 static bool flow_fits(const uint8_t *settings, const uint8_t *state)
 {
     const int64_t stage = state_number(state, STATE_STAGE);
@@ -179,7 +200,7 @@ static bool totals_fit(const uint8_t *state)
 bool is_possible(const uint8_t *settings, const uint8_t *state)
 {
     return unused_are_0(state) && day_fits(state) && weighing_fits(settings, state) && points_fit(settings, state)
-        && sequence_fits(settings, state) && totals_fit(state);
+        && waiting_fits(settings, state) && sequence_fits(settings, state) && totals_fit(state);
 }
 
 /* The outline's table, in its order. */
@@ -220,6 +241,12 @@ uint32_t told_of(const uint8_t *settings, const uint8_t *state)
     return settings_fit(settings) ? 0 : 10;
 }
 
+void put_grown(uint8_t *state, const uint8_t *earlier)
+{
+    memset(state, 0, PRESSGULLY_STATE);
+    memcpy(state, earlier, PRESSGULLY_STATE_A3);
+}
+
 /* "Open gates: 04-05 all three, 06-07 medium and small, 08-09 small; with P = 0 the medium gate never opens"; discharge in 15 and 16. */
 static bool gates_fit(const uint8_t *state, const uint8_t *answer)
 {
@@ -228,6 +255,15 @@ static bool gates_fit(const uint8_t *state, const uint8_t *answer)
     return answer_number(answer, ANSWER_LARGE) == within(stage, 4, 5)
         && answer_number(answer, ANSWER_MEDIUM) == (within(stage, 4, 7) && state_number(state, STATE_PRELIMINARY) != 0)
         && answer_number(answer, ANSWER_SMALL) == within(stage, 4, 9) && answer_number(answer, ANSWER_DISCHARGE) == within(stage, 15, 16);
+}
+
+/* "Near-zero output: gross at most near zero. Full output: mode 2 and gross above full", by the setpoints in use after the tick. */
+static bool outputs_fit(const uint8_t *settings, const uint8_t *state, const uint8_t *answer)
+{
+    const int64_t gross = answer_number(answer, ANSWER_GROSS);
+
+    return answer[11] == (gross <= state_number(state, STATE_NEAR_ZERO))
+        && answer[12] == (mode_of(settings) == 2 && gross > state_number(state, STATE_OPTIONAL));
 }
 
 const char *untrue(const uint8_t *settings, const uint8_t *state, const uint8_t *answer)
@@ -258,6 +294,8 @@ const char *untrue(const uint8_t *settings, const uint8_t *state, const uint8_t 
         return "the analog value is not of the board's kind";
     if (!fit && (answer[11] != 0 || answer[12] != 0))
         return "near zero or full in a bad or overloaded tick";
+    if (fit && !outputs_fit(settings, state, answer))
+        return "near zero or full is not by the setpoints in use";
     if (answer[1] == 0 && (answer_number(answer, ANSWER_GROSS) != 0 || answer_number(answer, ANSWER_NET) != 0 || answer[2] != 0))
         return "a weight in a bad tick";
     if (answer[14] == 0)
@@ -268,5 +306,47 @@ const char *untrue(const uint8_t *settings, const uint8_t *state, const uint8_t 
         && answer_number(answer, ANSWER_OPENING) + answer_number(answer, ANSWER_REFILLED) - answer_number(answer, ANSWER_USED)
                    - answer_number(answer, ANSWER_UNBOOKED) != answer_number(answer, ANSWER_CLOSING))
         return "the closed day does not balance";
+    return NULL;
+}
+
+static bool are_points(const uint8_t *state, enum state_field first, const int64_t *due)
+{
+    int64_t points[PRESSGULLY_POINTS];
+
+    points_at(state, first, points);
+    return memcmp(points, due, sizeof points) == 0;
+}
+
+/* A finish: "over if v > F + over, under if v < F - under, else OK". */
+static bool judgement_fits(const struct lent *before, const struct lent *after)
+{
+    const uint8_t *state = before->state;
+    const int64_t net = answer_number(after->answer, ANSWER_NET), v = mode_of(before->settings) == 1 ? net : -net;
+    const int64_t F = state_number(state, STATE_FINAL), over = state_number(state, STATE_OVER), under = state_number(state, STATE_UNDER);
+
+    return after->state[95] == (v > F + over ? 2 : v < F - under ? 3 : 1);
+}
+
+const char *astray(const struct lent *before, const struct lent *after, const uint32_t *written)
+{
+    const bool resting = before->state[88] == 0, returned = after->state[88] == 0;
+    bool waits = before->state[256] == 1;
+    int64_t in_use[PRESSGULLY_POINTS], waiting[PRESSGULLY_POINTS];
+    int i;
+
+    points_at(before->state, STATE_FINAL, in_use);
+    points_at(before->state, STATE_WAITING_FINAL, waiting);
+    for (i = 0; written != NULL && i < PRESSGULLY_POINTS; i++)
+        (resting ? in_use : waiting)[i] = written[i];
+    waits = waits || (written != NULL && !resting);
+    if (waits && returned)
+        memcpy(in_use, waiting, sizeof in_use);
+    waits = waits && !returned;
+    if (!are_points(after->state, STATE_FINAL, in_use))
+        return "the setpoints in use are not those due";
+    if (after->state[256] != waits || !are_points(after->state, STATE_WAITING_FINAL, waits ? waiting : no_points))
+        return "the waiting setpoints are not those due";
+    if (before->state[88] == 11 && returned && (after->state[94] == 0 || after->state[94] == 10) && !judgement_fits(before, after))
+        return "the judgement is not by the setpoints of the batch";
     return NULL;
 }

@@ -1,6 +1,6 @@
 /* The calls of board/pressgully.h over the peer's controller: images in, a tick or a
  * block of them by controller.c, images out.  docs/IMAGES.md has the places; the
- * ranges are those of the outline, the requests A1 to A3 and READINGS.md.
+ * ranges are those of the outline, the requests A1 to A3 and A5 and READINGS.md.
  *
  * Nothing is written before the last test has passed, so a refused call leaves every
  * byte of every buffer. */
@@ -199,7 +199,16 @@ static int32_t mode_of(const struct given *g)
     ROW(108, 1, undo, false, true)                                \
     UNUSED(109, 3)                                                \
     ROW(112, 8, undo_weight, 0, TOTAL_LIMIT)                      \
-    UNUSED(120, 136)
+    UNUSED(120, 136)                                              \
+    ROW(256, 1, waiting, false, true)                             \
+    UNUSED(257, 3)                                                \
+    ROW(260, 4, waiting_set.final, 0, SETPOINT_LIMIT)             \
+    ROW(264, 4, waiting_set.free_fall, 0, SETPOINT_LIMIT)         \
+    ROW(268, 4, waiting_set.preliminary, 0, SETPOINT_LIMIT)       \
+    ROW(272, 4, waiting_set.optional, 0, SETPOINT_LIMIT)          \
+    ROW(276, 4, waiting_set.over, 0, SETPOINT_LIMIT)              \
+    ROW(280, 4, waiting_set.under, 0, SETPOINT_LIMIT)             \
+    ROW(284, 4, waiting_set.near_zero, 0, SETPOINT_LIMIT)
 
 /* The rows follow each other without a gap, from the first byte to the last. */
 struct state_layout {
@@ -295,8 +304,9 @@ static bool possible_tracking(const struct given *g, const struct state *st)
     return st->tracking_count < q;
 }
 
-/* Setpoints do not change outside stage 00, so a batch is in a stage to which those in
- * use lead.  By their rules F is not 0 where P is not, nor where OP is not in mode 1. */
+/* The setpoints in use do not change outside stage 00, so a batch is in a stage to which
+ * they lead, whatever waits beside them.  By their rules F is not 0 where P is not, nor
+ * where OP is not in mode 1. */
 static bool possible_stage(const struct given *g, const struct state *st)
 {
     const struct setpoints *p = &st->setpoints;
@@ -316,6 +326,18 @@ static bool possible_stage(const struct given *g, const struct state *st)
     default:
         return false;
     }
+}
+
+/* A set that waits was tested as it was written, and none is left in stage 00.  Where
+ * none waits its numbers are 0, so that there is one image for the state. */
+static bool possible_waiting(const struct given *g, const struct state *st)
+{
+    const struct setpoints *p = &st->waiting_set;
+
+    if (st->waiting)
+        return st->stage != 0 && setpoint_rules(mode_of(g), p);
+    return p->final == 0 && p->free_fall == 0 && p->preliminary == 0 && p->optional == 0
+        && p->over == 0 && p->under == 0 && p->near_zero == 0;
 }
 
 /* The ticks that a timed stage lasts, at least 1; 0 of a stage that is not timed. */
@@ -382,7 +404,7 @@ static bool read_state(const uint8_t *image, const struct given *g, struct state
     return read_rows(image, st) && possible_day(st) && possible_stability(g, st)
         && possible_zero(g, st) && possible_tracking(g, st)
         && setpoint_rules(mode_of(g), &st->setpoints) && possible_stage(g, st)
-        && possible_sequence(g, st) && possible_totals(st);
+        && possible_waiting(g, st) && possible_sequence(g, st) && possible_totals(st);
 }
 
 /* ---- The calls ------------------------------------------------------------- */
@@ -509,6 +531,24 @@ uint32_t pressgully_open(const uint8_t *settings, size_t settings_len, uint8_t *
         return ANSWER_SETTINGS;
     rest(&c, state);
     return ANSWER_DONE;
+}
+
+/* The earlier image, with 0 in the places that it did not have yet, is judged as what it
+ * is to become: there is one image for a state, so these very bytes are the new one. */
+uint32_t pressgully_grow(const uint8_t *settings, size_t settings_len, const uint8_t *earlier,
+                         size_t earlier_len, uint8_t *state, size_t state_len)
+{
+    uint8_t grown[PRESSGULLY_STATE] = { 0 };
+    struct called c;
+    int number;
+
+    if (earlier_len != PRESSGULLY_STATE_A3)
+        return ANSWER_LENGTH;
+    memcpy(grown, earlier, PRESSGULLY_STATE_A3);
+    number = wake(settings, settings_len, grown, state_len, &c);
+    if (number == ANSWER_DONE)
+        memcpy(state, grown, sizeof grown);
+    return (uint32_t)number;
 }
 
 uint32_t pressgully_tick(const uint8_t *settings, size_t settings_len, uint8_t *state,

@@ -296,6 +296,24 @@ static bool has_large_flow(const struct settings *s, const struct setpoints *p)
     return s->mode == MODE_NORMAL && p->optional != 0;
 }
 
+/* In stage 00 in use at once; in any other a set waits, in the place of one that may
+ * be waiting already. */
+static void write_setpoints(struct state *st, const struct setpoints *p)
+{
+    if (st->stage == 0) {
+        st->setpoints = *p;
+    } else {
+        st->waiting_set = *p;
+        st->waiting = true;
+    }
+}
+
+/* What a read shows: the set that was written last. */
+static const struct setpoints *last_written(const struct state *st)
+{
+    return st->waiting ? &st->waiting_set : &st->setpoints;
+}
+
 /* ---- Requests and their answers ------------------------------------------ */
 
 /* The first refusal that applies, in numerical order, or 0. */
@@ -331,8 +349,6 @@ static int refusal(const struct settings *s, const struct state *st, const struc
             return ANSWER_MODE;
         return ANSWER_DONE;
     case REQUEST_SETPOINTS:
-        if (st->stage != 0)
-            return ANSWER_STAGE;
         return setpoint_rules(s->mode, &r->setpoints) ? ANSWER_DONE : ANSWER_SETPOINTS;
     case REQUEST_UNDO:
         return st->undo ? ANSWER_DONE : ANSWER_NO_UNDO;
@@ -348,11 +364,24 @@ static int refusal(const struct settings *s, const struct state *st, const struc
     return ANSWER_DONE;          /* never refused */
 }
 
-static void go_to_error(struct state *st, int32_t error)
+/* Every way back to stage 00 ends here, in step 4 a stop, in step 6 the others: the
+ * set that waits comes into use, and serves the outputs of this very tick.  What is to
+ * be judged by the old set is judged before. */
+static void return_to_00(struct state *st)
 {
     st->stage = 0;
     st->timer = 0;
     st->flow_clock = 0;
+    if (st->waiting) {
+        st->setpoints = st->waiting_set;
+        st->waiting_set = (struct setpoints){ .final = 0 };
+        st->waiting = false;
+    }
+}
+
+static void go_to_error(struct state *st, int32_t error)
+{
+    return_to_00(st);
     st->error = error;
 }
 
@@ -392,7 +421,7 @@ static void do_request(const struct settings *s, struct state *st, struct weighi
             go_to_error(st, st->stage < 14 ? 4 : 7);
         break;
     case REQUEST_SETPOINTS:
-        st->setpoints = r->setpoints;
+        write_setpoints(st, &r->setpoints);
         break;
     case REQUEST_UNDO:           /* the last booked batch, once */
         st->total -= st->undo_weight;
@@ -486,12 +515,12 @@ static void book_batch(struct state *st, int32_t v)
     }
 }
 
+/* By the set that the batch ran with, one written in this tick or before it not yet. */
 static void finish(struct state *st, int32_t v)
 {
-    st->stage = 0;
-    st->flow_clock = 0;
     st->judgement = judge(&st->setpoints, v);
     book_batch(st, v);
+    return_to_00(st);
 }
 
 /* Step 6 in stages 14-16, which error 9 has not ended: tests error 8, then the
@@ -515,10 +544,8 @@ static void discharge(const struct settings *s, struct state *st, const struct w
             enter_timed(st, 16, s->discharge_end_ticks);
         break;
     case 16:                     /* end delay */
-        if (timed_out(st)) {
-            st->flow_clock = 0;
-            st->stage = 0;
-        }
+        if (timed_out(st))
+            return_to_00(st);
         break;
     }
 }
@@ -908,7 +935,7 @@ static void write_reply(const struct state *st, const struct weighing *w, const 
         *at++ = ',';
         at = put_digits(at, st->batches, 8);
     } else if (a->command == COMMAND_READ_SETPOINTS) {
-        at = put_setpoints(at, &st->setpoints);
+        at = put_setpoints(at, last_written(st));
     } else {
         *at++ = line[a->prefix];
         *at++ = line[a->prefix + 1];

@@ -1,7 +1,7 @@
 /* A weighing and batching controller: one scale, normal and loss-in-weight
  * batching, discharge, one total, day book, serial commands, analog value.
- * Written by hand from the outline (01-scope.md), the change requests A1 and
- * A2 and READINGS.md alone.
+ * Written by hand from the outline (01-scope.md), the change requests A1, A2
+ * and A5 and READINGS.md alone.
  *
  * A tick is 1/100 s.  A tenth is a tenth of a division.  No allocation and no
  * globals: the caller owns settings and state, and passes them by pointer. */
@@ -130,7 +130,9 @@ struct state {
     int32_t undo_weight;
     bool undo;                   /* there is a batch to take back */
 
-    struct setpoints setpoints;
+    struct setpoints setpoints;  /* in use */
+    bool waiting;                /* a set waits for stage 00; never in that stage */
+    struct setpoints waiting_set; /* zeros where none waits */
 };
 
 enum request_kind {
@@ -194,7 +196,8 @@ enum line_kind {
 /* 0, or 10 and nothing written. */
 int open_controller(const struct given *g, struct settings *s, struct state *st);
 
-/* Whether these may be in use in this mode: refusal 6 is given where not. */
+/* Whether these may be in use in this mode: refusal 6 is given where not, also to a
+ * set that would have to wait. */
 bool setpoint_rules(int32_t mode, const struct setpoints *p);
 
 /* A tick with a request (or none) asked directly. */

@@ -99,6 +99,34 @@ static struct setpoints edge_setpoints(void)
     return set;
 }
 
+/* Near zero, and in mode 2 full, at the weight that the scale shows now or beside it: in the tick in which such a set comes into use it
+ * tells otherwise than the old one. */
+static struct setpoints levelled(const struct scenario *s, struct setpoints set)
+{
+    int32_t near = s->out.gross + ONE_OF(-1, 0, 0, 1) * s->settings.division;
+    int32_t full = s->out.gross + ONE_OF(-1, -1, 0, 1) * s->settings.division;
+
+    set.near_zero = most(near, 0);
+    if (s->settings.mode == MODE_LOSS_IN_WEIGHT)
+        set.optional = most(full, 0);
+    return set;
+}
+
+/* Of the edges only those that are refused: with any other a plant would not finish its next batch. */
+struct line panel(const struct scenario *s)
+{
+    if (once_in(s->state.waiting ? 3 : 10))
+        return command(s, "RS");
+    struct setpoints set = edge_setpoints();
+    if (setpoint_rules(s->settings.mode, &set) || !once_in(3)) {
+        int32_t top = full_scale(s) / ONE_OF(1, 2, 2);
+        set = good_setpoints(s, top);
+        if (once_in(2))
+            set = levelled(s, set);
+    }
+    return setpoints_command(s, &set);
+}
+
 struct line any_command(const struct scenario *s)
 {
     if (!once_in(8))

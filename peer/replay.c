@@ -216,6 +216,23 @@ static char *put_judgement(char *at, int judgement)
     }
 }
 
+static char *put_setpoints(char *at, const struct setpoints *p)
+{
+    at = put_number(at, p->final);
+    *at++ = ',';
+    at = put_number(at, p->free_fall);
+    *at++ = ',';
+    at = put_number(at, p->preliminary);
+    *at++ = ',';
+    at = put_number(at, p->optional);
+    *at++ = ',';
+    at = put_number(at, p->over);
+    *at++ = ',';
+    at = put_number(at, p->under);
+    *at++ = ',';
+    return put_number(at, p->near_zero);
+}
+
 static void write_tick(struct writer *w, int answer, const uint8_t *reply, size_t replied,
                        const struct outputs *out, const struct state *st)
 {
@@ -281,19 +298,12 @@ static void write_tick(struct writer *w, int answer, const uint8_t *reply, size_
     at = PUT(at, " batches=");
     at = put_number(at, st->batches);
     at = PUT(at, " setpoints=");
-    at = put_number(at, st->setpoints.final);
-    *at++ = ',';
-    at = put_number(at, st->setpoints.free_fall);
-    *at++ = ',';
-    at = put_number(at, st->setpoints.preliminary);
-    *at++ = ',';
-    at = put_number(at, st->setpoints.optional);
-    *at++ = ',';
-    at = put_number(at, st->setpoints.over);
-    *at++ = ',';
-    at = put_number(at, st->setpoints.under);
-    *at++ = ',';
-    at = put_number(at, st->setpoints.near_zero);
+    at = put_setpoints(at, &st->setpoints);
+    at = PUT(at, " waiting=");
+    if (st->waiting)
+        at = put_setpoints(at, &st->waiting_set);
+    else
+        *at++ = '-';
     *at++ = '\n';
 
     w->used = (size_t)(at - w->bytes);

@@ -56,6 +56,12 @@ int32_t usual_room(void)
     return turn % 3 == 0 ? 9 + turn / 3 % 56 : WHOLE_REPLY;
 }
 
+/* In a stage most scenarios have no setpoints but stray ones; in some they come in most batches, in some a few times in each. */
+int32_t usual_writes(void)
+{
+    return once_in(3) ? ONE_OF(4, 12, 50) : 0;
+}
+
 /* Zero and span: counts for a tenth whole and broken, and few enough for an overload of either sign to be a good count mostly. */
 static void draw_calibration(int32_t *v)
 {
@@ -173,11 +179,33 @@ bool begin(struct scenario *s, const struct given *given, int32_t room, int32_t 
     return open_controller(given, &s->settings, &s->state) == ANSWER_DONE;
 }
 
+/* Whether the stage returns to 00 in this tick, if nothing is asked. */
+static bool returns(const struct scenario *s, int32_t count, bool contact)
+{
+    struct state after = s->state;
+    struct outcome outcome;
+    struct outputs out;
+
+    tick(&s->settings, &after, count, contact, (struct request){.kind = REQUEST_NONE}, &outcome, &out);
+    return out.stage == 0;
+}
+
+/* Somebody who does not wait for the finish, and whose moment is often the very tick of it, or that of an error. */
+static struct line at_panel(const struct scenario *s, int32_t count, bool contact)
+{
+    if (s->writes == 0 || s->state.stage == 0)
+        return NONE;
+    return once_in(returns(s, count, contact) ? 2 : s->writes) ? panel(s) : NONE;
+}
+
 void step(struct scenario *s, int32_t count, bool contact, struct line request)
 {
     uint8_t receive[sizeof request.bytes + 2], reply[64];
-    size_t length = request.length, replied;
+    size_t length, replied;
 
+    if (request.length == 0)
+        request = at_panel(s, count, contact);
+    length = request.length;
     memcpy(receive, request.bytes, length);
     if (length == 0) {
         memcpy(receive, "--", 2);

@@ -47,6 +47,7 @@ struct scenario {
     struct outputs out;                         /* of the last tick */
     size_t room;                                /* the reply buffer's length */
     int32_t ticks, wanted;
+    int32_t writes;                             /* in a stage setpoints are written in one tick of so many; 0 is never */
     bool cr;                                    /* the tick lines end in CR LF */
 };
 
@@ -63,6 +64,7 @@ enum { WHOLE_REPLY = -1 };                      /* no argument: a reply buffer o
 struct given settings_of(int mode);             /* drawn, and accepted */
 int usual_mode(void);
 int32_t usual_room(void);
+int32_t usual_writes(void);
 
 void into_folder(const char *name);
 void begin_unread(struct scenario *s, const char *settings);            /* a first line that may be anything */
@@ -80,6 +82,7 @@ struct line any_command(const struct scenario *s);      /* in good form */
 struct line malformed(const struct scenario *s);
 struct line stray(const struct scenario *s);            /* either */
 struct setpoints good_setpoints(const struct scenario *s, int32_t top); /* by the rules, final at most top */
+struct line panel(const struct scenario *s);            /* setpoints for the next batch, or a look at those that wait */
 
 /* ---- Counts ---- */
 

@@ -143,6 +143,7 @@ static void hopper(struct scenario *s)
     struct plant p = usual_plant();
 
     begin(s, &g, usual_room(), between(800, 3000));
+    s->writes = usual_writes();
     warm_up(s, &p);
     while (more(s)) {
         p.weight = between(-3, 12) * (int64_t)1000;
@@ -175,6 +176,7 @@ static void vessel(struct scenario *s)
     const int64_t division = 10000;
 
     begin(s, &g, usual_room(), between(800, 3000));
+    s->writes = usual_writes();
     warm_up(s, &p);
     while (more(s)) {
         int64_t full = s->settings.capacity * division * 9 / 10;
@@ -231,6 +233,7 @@ static void comparisons(struct scenario *s)
     g.value[FLOW_LIMIT] = once_in(3) ? between(10, 60) : 300;
     g.value[DISCHARGE_LIMIT] = once_in(3) ? between(2, 12) : 60;
     begin(s, &g, usual_room(), between(600, 1500));
+    s->writes = usual_writes();
     while (more(s)) {
         struct line request = NONE;
         if (rest-- <= 0) {
@@ -308,6 +311,7 @@ static void faults(struct scenario *s)
             g.value[MODE] = MODE_NORMAL;
     }
     begin(s, &g, usual_room(), between(1500, 3000));
+    s->writes = usual_writes();
     while (more(s)) {
         enum fault fault = once_in(6) ? STOPPED : (enum fault)between(0, FAULTS - 1);
         int stage = between(3, 11), after = between(0, 2), in_stage = 0;
@@ -427,6 +431,7 @@ static void emptied_hopper(struct scenario *s)
     struct plant p = usual_plant();
 
     begin(s, &g, usual_room(), between(800, 2500));
+    s->writes = usual_writes();
     warm_up(s, &p);
     while (more(s)) {
         if (p.weight > s->settings.capacity * (int64_t)5000)    /* what a blocked gate left is taken out by hand */
@@ -533,6 +538,7 @@ static void discharges(struct scenario *s)
     g.value[DISCHARGE_END] = ONE_OF(0, 0, 1, 2, 3, 8);
     g.value[DISCHARGE_LIMIT] = once_in(4) ? between(1, 4) : between(1, 25);
     begin(s, &g, usual_room(), between(800, 1600));
+    s->writes = usual_writes();
     while (more(s)) {
         if (once_in(4)) {
             struct setpoints set = good_setpoints(s, full_scale(s) / 2);
@@ -573,6 +579,63 @@ static void longest_discharge(struct scenario *s)
         step(s, count_of(s, s->state.zero + (blocked ? 10 : 0)), false, NONE);
 }
 
+/* ---- Setpoints written in every stage ---- */
+
+/* A batch with the weight at each comparison as it comes, that ends as it may, or in the way that the fault says. */
+static void hasty_batch(struct scenario *s)
+{
+    const enum fault fault = (enum fault)ONE_OF(FAULTS, FAULTS, FAULTS, THERE_AT_START, TAKEN_OUT, STOPPED, SCALE_FAILS);
+    const int32_t d = s->settings.division;
+    const int last = between(3, 11);            /* the stage of a stop or of a scale that fails */
+    int64_t tenths = tenths_of_v(s, 0);
+    int stage = 0;
+
+    step(s, count_of(s, tenths), false, command(s, "BB"));
+    while (s->out.stage != 0) {
+        const bool here = s->out.stage == last && once_in(2);
+        if (s->out.stage != stage && s->out.stage != 11) {      /* in 11 it comes to rest where it was in 10 */
+            int32_t away = s->out.stage == 3 && fault != THERE_AT_START ? -1 : s->out.stage == 10 ? between(-1, 1) : 0;
+            tenths = tenths_of_v(s, s->out.stage == 10 && fault == TAKEN_OUT ? -d : comparison_of(s) + away * d);
+        }
+        stage = s->out.stage;
+        int32_t count = here && fault == SCALE_FAILS ? bad_count() : count_of(s, tenths);
+        step(s, count, false, here && fault == STOPPED ? command(s, "HB") : NONE);
+    }
+}
+
+/* Somebody at the panel writes all the time, and what was written last serves the next batch or discharge; now and then there is no final
+ * weight at its start. The reply buffer may have room for what is done, but not for NG. */
+static void impatient(struct scenario *s)
+{
+    struct given g = settings_of(usual_mode());
+    const int32_t least_room = g.value[ADDRESS] == 0 ? 4 : 7;
+
+    g.value[STABLE_TIME] = 10;
+    g.value[START_DELAY] = ONE_OF(0, 2, 3, 4);
+    g.value[FLOW_LIMIT] = between(15, 60);
+    g.value[DISCHARGE_START] = ONE_OF(0, 2, 3, 4);
+    g.value[DISCHARGE_LIMIT] = between(2, 12);
+    begin(s, &g, once_in(5) ? least_room : WHOLE_REPLY, between(800, 1600));
+    s->writes = ONE_OF(2, 3, 6);
+    while (more(s)) {
+        if (once_in(6)) {
+            struct setpoints set = {.near_zero = s->settings.division};
+            step(s, count_of(s, s->state.zero), false, setpoints_command(s, &set));
+        }
+        if (once_in(20)) {
+            int64_t tenths = tenths_of_divisions(s, between(0, s->settings.capacity / 2));
+            for (int32_t i = s->settings.stability_time; i >= 0; i--)
+                step(s, count_of(s, tenths), false, i == 0 ? command(s, "MT") : NONE);
+        }
+        if (s->settings.mode == MODE_NORMAL && once_in(3))
+            one_discharge(s);
+        else
+            hasty_batch(s);
+        for (int32_t i = between(0, 2); i > 0; i--)
+            step(s, count_of(s, s->state.zero), false, command(s, once_in(2) ? "RS" : "RT"));
+    }
+}
+
 /* ---- Weights ---- */
 
 /* An idle tank under tracking: steps of the width and of a tenth more, held for the tracking time and a tick less or more, mostly
@@ -589,6 +652,7 @@ static void idle_tank(struct scenario *s)
     g.value[TRACKING_WIDTH] = w;
     g.value[ALLOWANCE] = once_in(3) ? 10000 : between(0, 12 * w);
     begin(s, &g, usual_room(), between(600, 2000));
+    s->writes = usual_writes();
     warm_up(s, &p);
     p.stray = ONE_OF(0, 0, 60);
     while (more(s)) {
@@ -642,6 +706,7 @@ static void zero_and_tare(struct scenario *s)
 
     g.value[STABLE_TIME] = ONE_OF(10, 10, 11, 20);
     begin(s, &g, usual_room(), between(500, 1200));
+    s->writes = usual_writes();
     const int32_t width = s->settings.stability_width, range = s->settings.zero_range / 10, c = s->settings.capacity;
     while (more(s)) {
         bool zero = once_in(2);
@@ -694,6 +759,7 @@ static void noisy_line(struct scenario *s)
     struct plant p = {.contact = false};
 
     begin(s, &g, usual_room(), between(400, 1000));
+    s->writes = usual_writes();
     s->cr = once_in(8);
     while (more(s)) {
         p.weight = between(-20, s->settings.capacity * 5) * (int64_t)1000;
@@ -714,6 +780,7 @@ static void short_reply(struct scenario *s)
     struct plant p = {.bad = 30, .heavy = 30};
 
     begin(s, &g, room, between(80, 250));
+    s->writes = usual_writes();
     while (more(s)) {
         p.weight = 0;
         settle(s, &p);
@@ -735,6 +802,7 @@ static void wild(struct scenario *s)
     int32_t count = bad_count();
 
     begin(s, &g, usual_room(), between(300, 800));
+    s->writes = usual_writes();
     while (more(s)) {
         int32_t c = 2 * s->settings.capacity;
         switch (between(0, 9)) {
@@ -796,9 +864,10 @@ static const struct kind first[] = {
 /* By turns, until the ticks are written. */
 static const struct kind turns[] = {
     {"hopper", hopper}, {"vessel", vessel}, {"comparisons", comparisons}, {"faults", faults}, {"short reply", short_reply},
-    {"idle tank", idle_tank}, {"feeding tank", feeding_tank}, {"zero and tare", zero_and_tare}, {"sweep", sweep}, {"short reply", short_reply},
-    {"emptied hopper", emptied_hopper}, {"discharges", discharges}, {"discharges", discharges}, {"noisy line", noisy_line}, {"large total", large_total},
-    {"wild", wild}, {"short reply", short_reply},
+    {"impatient", impatient}, {"idle tank", idle_tank}, {"feeding tank", feeding_tank}, {"zero and tare", zero_and_tare},
+    {"sweep", sweep}, {"short reply", short_reply}, {"emptied hopper", emptied_hopper}, {"discharges", discharges},
+    {"discharges", discharges}, {"noisy line", noisy_line}, {"large total", large_total}, {"wild", wild}, {"impatient", impatient},
+    {"short reply", short_reply},
 };
 
 /* Only in a long run, once. */

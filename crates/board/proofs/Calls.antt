@@ -5,7 +5,7 @@ use mathlib.Core.Path.{_≡_, refl, sym, ap, _∙_}
 use mathlib.Core.Bool.{Bool, true, false, cond}
 use mathlib.Core.List.{List, [], _∷_, foldl}
 use lib.Dec.{eqb, leb}
-use lib.ListN.{length}
+use lib.ListN.{length, take}
 use lib.IntN.{ℤ}
 use borrow.Author.Tests.{eq-eqb, eqb-true, lt-ltb}
 use Rattle.types.specs.declared.settings.Given.{Given}
@@ -18,23 +18,30 @@ use Rattle.types.specs.declared.machine.BlockAnswer.the-variants as ran
 use Rattle.types.specs.declared.lines.LineTick.{LineTick}
 use Rattle.outline.specs.Limits.{blockLimit}
 use Rattle.outline.specs.Settings.{settingsFit, settingsOf, openOf}
+use Rattle.outline.specs.Setpoints.{noneWaiting}
 use Rattle.outline.specs.Numbers.{openingNumber}
 use Rattle.outline.specs.Tick.{nextOf, tickOf, countIn, blockOf, unaskedOf}
 use Rattle.outline.specs.Replies.{askedOf, dueText, lineTickOf}
 use Rattle.outline.proofs.Parts.{clash}
 use Rattle.outline.proofs.LineBytes.{reply-bounded}
 use Rattle.outline.specs.Run.{History, _▷_, runOf, runFrom, thenAll, blockInputs, lineInput}
-use Rattle.images.specs.StateImage.{imageOf}
+use Rattle.images.specs.StateImage.{stateLength, earlierLength, imageOf, stateAt, grownOf}
 use Rattle.images.specs.GivenImage.{GivenRead, givenImage, givenIn}
 use Rattle.images.specs.Images.{StateRead, stateIn}
 use Rattle.images.specs.Owed.{good}
+use Rattle.images.specs.Images.{earlierRefusal}
+use Rattle.images.specs.Possible.{possible}
+use Rattle.images.proofs.Earlier.{grows, earlier-read}
+use Rattle.images.proofs.Decided.{range-passes}
+use Rattle.outline.proofs.RangeRun.{run-in}
+use Rattle.outline.proofs.BookRun.{balance-law}
 use Rattle.images.proofs.GivenTrip.{given-back}
 use Rattle.images.proofs.Trip.{one-image}
 use Rattle.images.proofs.FromImages.{runs-pass, from-images}
 use Rattle.board.specs.AnswerImage.{answerLength, lengthByte}
-use Rattle.board.proofs.Cases.{made-of}
-use Rattle.board.specs.Board.{imagesRefusal, callRefusal, givenBy, settingsBy, stateBy, refusalBy, lengthRefusal, openAnswer, openImage, ifRoom, inputBy, tickBy, tickImage, lineBy, lineImage, blockBy, blockImage}
-use Rattle.board.specs.Owed.{Call, tick, line, block, imageAfter, imageRun, ticksOf, stateRun, historyOf, CallsAreTicks, OpensARun, CallsAreRuns, LengthTold}
+use Rattle.board.proofs.Cases.{made-of, state-passes, is-done, grow-good}
+use Rattle.board.specs.Board.{imagesRefusal, callRefusal, givenBy, settingsBy, stateBy, refusalBy, lengthRefusal, openAnswer, openImage, earlierBy, growAnswer, growImage, ifRoom, inputBy, tickBy, tickImage, lineBy, lineImage, blockBy, blockImage}
+use Rattle.board.specs.Owed.{Call, tick, line, block, imageAfter, imageRun, ticksOf, stateRun, historyOf, CallsAreTicks, OpensARun, CallsAreRuns, GrowsPass, GrowsARun, LengthTold}
 
 -- ---- what is not refused: settings that were accepted, and a state that its image gives back
 record Passed (l t : List ℕ) : Type 0 where
@@ -180,3 +187,54 @@ pub length-told : LengthTold
 unfolding lengthByte
 length-told s st count contact receive reply =
     simp (lt-ltb (lineTickOf s st count contact receive reply .length) 256 (omega (arith, reply-bounded s st count contact receive reply .line)))
+
+-- ---- a grown image
+earlier-passes : (l e : List ℕ) → earlierBy l e ≡ 0 → (earlierRefusal e ≡ 0) × (possible (settingsBy l) (stateAt e) ≡ true)
+unfolding earlierBy
+earlier-passes l e = go (eqb (earlierRefusal e) 0) (possible (settingsBy l) (stateAt e)) refl
+  where
+    go : (z p : Bool) → eqb (earlierRefusal e) 0 ≡ z → _≡_ {A = ℕ} (cond z (cond p 0 21) (earlierRefusal e)) 0 → (earlierRefusal e ≡ 0) × (p ≡ true)
+    go true true k h = (eqb-true (earlierRefusal e) 0 k, refl)
+    go true false k h = absurd (omega arith)
+    go false p k h = absurd (clash (eq-eqb (earlierRefusal e) 0 h) k)
+
+-- the image that an earlier one grows to passes, and gives its state
+grown : (l e t : List ℕ) → growAnswer l e (length t) ≡ 0 → (refusalBy l (grownOf e) ≡ 0) × (stateBy l (grownOf e) ≡ stateAt e) × (stateAt e .waiting ≡ noneWaiting)
+unfolding growAnswer callRefusal
+grown l e t z =
+    let n = none (givenIn l .refusal) (imagesRefusal (lengthRefusal (length t)) (earlierBy l e)) (openingNumber (openOf (givenBy l))) z in
+    let k = earlier-passes l e (state-passes (lengthRefusal (length t)) (earlierBy l e) (givenBy l) (n .1)) in
+    let g = grows (givenBy l) e (k .0) (k .1) in (
+      unrefused l (grownOf e) (settingsBy l) (n .0) (ap (λ (r : StateRead). r .refusal) (g .image)) (opens (givenBy l) (n .2)),
+      ap (λ (r : StateRead). r .state) (g .image),
+      g .none,
+    )
+
+pub grows-pass : GrowsPass
+unfolding growImage
+grows-pass l e t z =
+    let k = grown l e t z in
+    let same = is-done (growAnswer l e (length t)) (grownOf e) t z in
+    record {
+      passes = ap (refusalBy l) (sym same) ∙ k .0;
+      state = ap (stateBy l) (sym same) ∙ k .1;
+      none = k .2;
+    }
+
+-- ---- the earlier image of a run
+unrefused-all : (a n r : ℕ) → a ≡ 0 → n ≡ stateLength → r ≡ 0 → imagesRefusal a (imagesRefusal (lengthRefusal n) r) ≡ 0
+unfolding imagesRefusal lengthRefusal
+unrefused-all a n r ea en er = simp (ea, en, er)
+
+pub grows-a-run : GrowsARun
+grows-a-run g s k a h w t n =
+    let st = runOf s h in
+    let l = givenImage g in
+    let e = take earlierLength (imageOf st) in
+    let b = given-back g k in
+    let p = range-passes s st (run-in s h) (balance-law s (g, a) h) in
+    let x = earlier-read g s a st p w in
+    let made : settingsBy l ≡ s = ap (λ (r : GivenRead). settingsOf (r .given)) b ∙ made-of g s a in
+    let can : possible (settingsBy l) (stateAt e) ≡ true = (λ i. possible (made i) (x .state i)) ∙ p in
+    let why = unrefused-all (givenIn l .refusal) (length t) (earlierRefusal e) (ap (λ (r : GivenRead). r .refusal) b) n (x .refusal) in
+    sym (grow-good l e t why s can (ap (λ (r : GivenRead). openOf (r .given)) b ∙ a) .1) ∙ x .grown

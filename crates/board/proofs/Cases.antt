@@ -22,18 +22,20 @@ use Rattle.outline.specs.Replies.{lineTickOf, replyBuffer}
 use Rattle.outline.proofs.Opened.{passed}
 use Rattle.outline.proofs.Parts.{clash}
 use Rattle.places.specs.Places.{sameBytes}
-use Rattle.images.specs.StateImage.{stateLength, imageOf, stateAt}
+use Rattle.images.specs.StateImage.{stateLength, earlierLength, imageOf, stateAt, grownOf}
 use Rattle.images.specs.Possible.{possible}
-use Rattle.images.specs.Images.{stateRefusal, bytesRefusal, stateIn}
+use Rattle.images.specs.Buffers.{isImage}
+use Rattle.images.specs.Images.{stateRefusal, bytesRefusal, earlierRefusal, stateIn}
 use Rattle.images.specs.GivenImage.{givenLength, givenImage, givenAt, givenRefusal, givenIn}
 use Rattle.images.proofs.InPlace.{open-holds}
+use Rattle.images.proofs.Earlier.{passes}
 use Rattle.images.proofs.Trip.{one-image}
 use Rattle.images.proofs.Read.{held-at}
 use Rattle.images.specs.Holds.{Holds}
 use Rattle.places.specs.Places.{Bytes}
 use Rattle.board.specs.AskedBy.{isRequest}
 use Rattle.board.specs.AnswerImage.{answerLength, answerBuffer}
-use Rattle.board.specs.Board.{imagesRefusal, callRefusal, givenBy, settingsBy, stateBy, refusalBy, unless, lengthRefusal, openAnswer, openImage, ifRoom, tickBy, toldOf, tickAnswer, tickImage, tickBuffer, lineBy, lineAnswer, lineImage, lineReply, lineBuffer, blockBy, blockAnswer, blockImage}
+use Rattle.board.specs.Board.{imagesRefusal, callRefusal, givenBy, settingsBy, stateBy, refusalBy, unless, lengthRefusal, openAnswer, openImage, earlierBy, growAnswer, growImage, ifRoom, tickBy, toldOf, tickAnswer, tickImage, tickBuffer, lineBy, lineAnswer, lineImage, lineReply, lineBuffer, blockBy, blockAnswer, blockImage}
 
 -- ---- the first refusal
 module _ (a b : ℕ) (g : Given) where
@@ -150,6 +152,90 @@ module _ (l t : List ℕ) where
       let e = by-none (givenIn l .refusal) (lengthRefusal (length t)) (givenBy l) s w o in
       (sym e, rw e (ap (λ (k : ℕ). replicate k 0) (length-passes (length t) (state-passes (givenIn l .refusal) (lengthRefusal (length t)) (givenBy l) w)) ∙ sym (open-holds .image)))
 
+-- ---- grow
+-- an earlier image that is not possible is refused after the lengths and the bytes
+late : (a n : ℕ) → (imagesRefusal a (imagesRefusal n 0) ≡ 0 → ⊥) → imagesRefusal a (imagesRefusal n 21) ≡ imagesRefusal a (imagesRefusal n 0)
+unfolding imagesRefusal
+late a n = go (eqb n 20) (eqb n 0) (eqb a 20) (eqb a 0)
+  where
+    inner : Bool → Bool → ℕ → ℕ
+    inner p q b = cond p 20 (cond q b n)
+
+    outer : Bool → Bool → ℕ → ℕ
+    outer x z b = cond x 20 (cond (eqb b 20) 20 (cond z b a))
+
+    go : (p q x z : Bool) → (outer x z (inner p q 0) ≡ 0 → ⊥) → outer x z (inner p q 21) ≡ outer x z (inner p q 0)
+    go true q x z h = refl
+    go false true true z h = refl
+    go false true false true h = absurd (h refl)
+    go false true false false h = refl
+    go false false x z h = refl
+
+module _ (l e t : List ℕ) where
+  abbrev growBytes : ℕ
+  growBytes = imagesRefusal (lengthRefusal (length t)) (earlierRefusal e)
+
+  abbrev whyGrow : ℕ
+  whyGrow = imagesRefusal (givenIn l .refusal) growBytes
+
+  abbrev canGrow : Bool
+  canGrow = possible (settingsBy l) (stateAt e)
+
+  growing : (whyGrow ≡ 0 → ⊥) → imagesRefusal (givenIn l .refusal) (imagesRefusal (lengthRefusal (length t)) (earlierBy l e)) ≡ whyGrow
+  unfolding earlierBy
+  growing n = go (eqb (earlierRefusal e) 0) canGrow refl
+    where
+      go : (z p : Bool) → eqb (earlierRefusal e) 0 ≡ z
+          → imagesRefusal (givenIn l .refusal) (imagesRefusal (lengthRefusal (length t)) (cond z (cond p 0 21) (earlierRefusal e))) ≡ whyGrow
+      go false p k = refl
+      go true true k = sym (ap (λ (r : ℕ). imagesRefusal (givenIn l .refusal) (imagesRefusal (lengthRefusal (length t)) r)) (eqb-true (earlierRefusal e) 0 k))
+      go true false k =
+          let same = ap (λ (r : ℕ). imagesRefusal (givenIn l .refusal) (imagesRefusal (lengthRefusal (length t)) r)) (eqb-true (earlierRefusal e) 0 k) in
+          late (givenIn l .refusal) (lengthRefusal (length t)) (λ h. n (same ∙ h)) ∙ sym same
+
+  pub grow-kept : (whyGrow ≡ 0 → ⊥) → (whyGrow ≡ growAnswer l e (length t)) × (t ≡ growImage l e t)
+  unfolding growAnswer growImage
+  grow-kept n =
+      let same = growing n in
+      let k = by-images (givenIn l .refusal) (imagesRefusal (lengthRefusal (length t)) (earlierBy l e)) (givenBy l) (λ h. n (sym same ∙ h)) ∙ same in
+      (sym k, rw k (is-kept whyGrow (grownOf e) t n))
+
+  module _ (w : whyGrow ≡ 0) where
+    given-none : givenIn l .refusal ≡ 0
+    given-none = given-passes (givenIn l .refusal) growBytes w
+
+    bytes-none : growBytes ≡ 0
+    bytes-none = state-passes (givenIn l .refusal) growBytes (givenBy l) w
+
+    length-none : lengthRefusal (length t) ≡ 0
+    length-none = given-passes (lengthRefusal (length t)) (earlierRefusal e) bytes-none
+
+    earlier-none : earlierRefusal e ≡ 0
+    earlier-none = state-passes (lengthRefusal (length t)) (earlierRefusal e) (givenBy l) bytes-none
+
+    pub grow-given : length l ≡ givenLength
+    grow-given = given-long l given-none
+
+    pub grow-earlier : isImage (length e) ≡ true
+    grow-earlier = ap isImage (passes e earlier-none .0)
+
+    -- what the growth itself asks
+    pub grow-state : (earlierRefusal e ≡ 0) × (length e ≡ earlierLength) × (length t ≡ stateLength)
+    grow-state = (earlier-none, passes e earlier-none .0, length-passes (length t) length-none)
+
+    pub grow-ranges : canGrow ≡ false → (21 ≡ growAnswer l e (length t)) × (t ≡ growImage l e t)
+    unfolding growAnswer growImage callRefusal imagesRefusal earlierBy
+    grow-ranges p = (simp (given-none, length-none, earlier-none, p), simp (given-none, length-none, earlier-none, p))
+
+    pub grow-settings : canGrow ≡ true → openOf (givenBy l) ≡ opening.Refused → (10 ≡ growAnswer l e (length t)) × (t ≡ growImage l e t)
+    unfolding growAnswer growImage callRefusal imagesRefusal earlierBy
+    grow-settings p o = (simp (given-none, length-none, earlier-none, p, o), simp (given-none, length-none, earlier-none, p, o))
+
+    pub grow-good : (s : Settings) → canGrow ≡ true → openOf (givenBy l) ≡ opening.Accepted s
+        → (0 ≡ growAnswer l e (length t)) × (grownOf e ≡ growImage l e t)
+    unfolding growAnswer growImage callRefusal imagesRefusal earlierBy
+    grow-good s p o = (simp (given-none, length-none, earlier-none, p, o), simp (given-none, length-none, earlier-none, p, o))
+
 -- ---- a state's image is judged by its bytes first, then by what is possible; k: the length is right, s: the bytes are the state's, p: it is possible
 module _ (a : ℕ) where
   abbrev byBytes : Bool → Bool → ℕ
@@ -202,13 +288,16 @@ module _ (l t : List ℕ) where
   pub first-given : first ≡ 0 → length l ≡ givenLength
   first-given e = given-long l (given-passes (givenIn l .refusal) (bytesRefusal t) e)
 
-  pub first-state : first ≡ 0 → length t ≡ stateLength
+  first-state : first ≡ 0 → length t ≡ stateLength
   unfolding bytesRefusal
   first-state e = go (eqb (length t) stateLength) refl (state-passes (givenIn l .refusal) (bytesRefusal t) (givenBy l) e)
     where
       go : (k : Bool) → eqb (length t) stateLength ≡ k → _≡_ {A = ℕ} (cond k (cond (sameBytes (imageOf (stateAt t)) t) 0 21) 20) 0 → length t ≡ stateLength
       go true k h = eqb-true (length t) stateLength k
       go false k h = absurd (omega arith)
+
+  pub first-image : first ≡ 0 → isImage (length t) ≡ true
+  first-image e = ap isImage (first-state e)
 
   both-images : (why ≡ 0 → ⊥) → refusalBy l t ≡ why
   unfolding refusalBy

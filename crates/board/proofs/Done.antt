@@ -6,9 +6,10 @@ use Prim.Native.Nat.{ℕ}
 use denote.Enum.Declared.{tagOf}
 use types.Run.{OneOf, miss}
 use Rattle.types.proofs.requests.Request.{the-type}
+use Rattle.types.specs.declared.machine.State.{State}
 use Rattle.types.specs.declared.requests.Request.{Request}
 use Rattle.types.specs.declared.requests.Request.the-variants.{Nothing, Zero, Tare, TareClear, Start, Stop, Set, TotalClear, Undo, ShowGross, ShowNet, DayClose, Discharge}
-use Rattle.board.specs.InPlace.{heldBy, keyedBy}
+use Rattle.board.specs.InPlace.{heldBy, keyedBy, batchDone}
 
 -- all but a zero
 abbrev unkeyed : List ℕ
@@ -47,3 +48,22 @@ not-held ShowGross h = refl
 not-held ShowNet h = refl
 not-held DayClose h = refl
 not-held Discharge h = absurd (miss unheld _ tt h)
+
+-- all but a start, a stop, a write and a discharge
+abbrev still : List ℕ
+still = 0 ∷ 1 ∷ 2 ∷ 3 ∷ 7 ∷ 8 ∷ 9 ∷ 10 ∷ 11 ∷ []
+
+pub not-batched : (st : State) (d : Request) → OneOf still (tagOf the-type d) → st ≡ batchDone st d
+not-batched st Nothing h = refl
+not-batched st Zero h = refl
+not-batched st Tare h = refl
+not-batched st TareClear h = refl
+not-batched st Start h = absurd (miss still _ tt h)
+not-batched st Stop h = absurd (miss still _ tt h)
+not-batched st (Set p) h = absurd (miss still _ tt h)
+not-batched st TotalClear h = refl
+not-batched st Undo h = refl
+not-batched st ShowGross h = refl
+not-batched st ShowNet h = refl
+not-batched st DayClose h = refl
+not-batched st Discharge h = absurd (miss still _ tt h)

@@ -26,7 +26,7 @@ use Rattle.outline.specs.Parts.{withWeighing, pickState}
 use Rattle.outline.specs.Requests.{idleNow, grantOf, grantedOf, rulingOf}
 use Rattle.outline.specs.Tick.{enteredOf, weightsOf, steppedOf, nextOf, outputsOf, tickOf, unaskedOf}
 use Rattle.outline.specs.Steps.{answeredOf, leftOf, Asked, asked-next, asked-tick}
-use Rattle.board.specs.InPlace.{closedPut, outputsPut, rawIn, heldBy, keyedBy}
+use Rattle.board.specs.InPlace.{closedPut, outputsPut, rawIn, heldBy, keyedBy, besideBatch, batchDone}
 use Rattle.images.specs.StateImage.{imageOf}
 use Rattle.images.specs.Holds.{Holds}
 use Rattle.board.specs.AnswerImage.{answerBuffer}
@@ -48,6 +48,39 @@ granted-by st x request.ShowGross = refl
 granted-by st x request.ShowNet = refl
 granted-by st x request.DayClose = refl
 granted-by st x request.Discharge = refl
+
+-- ---- a request is done in two: settled, and turned
+pub batch-granted : (st : State) (x : Weights) (d : Request) → batchDone (grantedOf st x (besideBatch d) .state) d ≡ grantedOf st x d .state
+unfolding grantedOf
+batch-granted st x request.Nothing = refl
+batch-granted st x request.Zero = refl
+batch-granted st x request.Tare = refl
+batch-granted st x request.TareClear = refl
+batch-granted st x request.Start = refl
+batch-granted st x request.Stop = refl
+batch-granted st x (request.Set p) = refl
+batch-granted st x request.TotalClear = refl
+batch-granted st x request.Undo = refl
+batch-granted st x request.ShowGross = refl
+batch-granted st x request.ShowNet = refl
+batch-granted st x request.DayClose = refl
+batch-granted st x request.Discharge = refl
+
+pub batch-closed : (st : State) (x : Weights) (d : Request) → grantedOf st x (besideBatch d) .closed ≡ grantedOf st x d .closed
+unfolding grantedOf
+batch-closed st x request.Nothing = refl
+batch-closed st x request.Zero = refl
+batch-closed st x request.Tare = refl
+batch-closed st x request.TareClear = refl
+batch-closed st x request.Start = refl
+batch-closed st x request.Stop = refl
+batch-closed st x (request.Set p) = refl
+batch-closed st x request.TotalClear = refl
+batch-closed st x request.Undo = refl
+batch-closed st x request.ShowGross = refl
+batch-closed st x request.ShowNet = refl
+batch-closed st x request.DayClose = refl
+batch-closed st x request.Discharge = refl
 
 -- ---- what the weights tell of the count that they were made from
 pub raw-again : (s : Settings) (q : Stability) (w : Weighing) (r : Raw) (contact : Bool) → rawIn (weighOf s q w r contact) ≡ r

@@ -11,7 +11,7 @@ use Rattle.types.specs.declared.requests.Outcome.{Outcome}
 use Rattle.types.specs.declared.requests.Outcome.the-variants as outcome
 use Rattle.types.specs.declared.weight.Panel.{Panel}
 use Rattle.types.specs.declared.weight.Weights.{Weights}
-use Rattle.types.specs.declared.stages.Setpoints.{Setpoints}
+use Rattle.outline.specs.Setpoints.{latestOf}
 use Rattle.types.specs.declared.stages.Totals.{Totals}
 use Rattle.types.specs.declared.machine.State.{State}
 use Rattle.types.specs.declared.machine.Input.{Input}
@@ -39,12 +39,13 @@ use Rattle.board.specs.AnswerImage.{answerBuffer}
 use Rattle.board.specs.Board.{inputOf}
 use Rattle.board.proofs.InOrder.{Ran}
 
--- ---- it asks for three parts of a state
-module _ (a b : State) (x : Reading) (o : Outcome) (ep : a .panel ≡ b .panel) (et : a .totals ≡ b .totals) (en : a .setpoints ≡ b .setpoints) where
+-- ---- it asks for four parts of a state
+module _ (a b : State) (x : Reading) (o : Outcome) (ep : a .panel ≡ b .panel) (et : a .totals ≡ b .totals) (en : a .setpoints ≡ b .setpoints)
+    (ew : a .waiting ≡ b .waiting) where
   word-shown : (w : Word) → wordReply w a x o ≡ wordReply w b x o
   word-shown word.ReadWeight = ap (λ (p : Panel). reply.Weight (shownOf (p .display) x)) ep
   word-shown word.ReadTotal = ap (λ (t : Totals). reply.Total (t .total) (t .count)) et
-  word-shown word.ReadSetpoints = ap (λ (p : Setpoints). reply.Points p) en
+  word-shown word.ReadSetpoints = λ i. reply.Points (latestOf (en i) (ew i))
   word-shown word.Zero = refl
   word-shown word.Tare = refl
   word-shown word.TareClear = refl
@@ -126,7 +127,7 @@ module _ (s : Settings) (st : State) (count : ℤ) (contact : Bool) (receive buf
     same-due : replyDue c entered (readingOf x) o ≡ replyDue c st (tick .answer .reading) (tick .answer .outcome)
     unfolding enteredOf
     same-due =
-        due-shown entered st (readingOf x) o refl refl refl c
+        due-shown entered st (readingOf x) o refl refl refl refl c
         ∙ due-weighed st (readingOf x) (tick .answer .reading) o c weighed
         ∙ ap (replyDue c st (tick .answer .reading)) settled
 

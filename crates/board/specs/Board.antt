@@ -18,9 +18,10 @@ use Rattle.outline.specs.Settings.{settingsOf, openOf}
 use Rattle.outline.specs.Numbers.{openingNumber, outcomeNumber, blockNumber, toldNumber}
 use Rattle.outline.specs.Tick.{openState, tickOf, blockOf}
 use Rattle.outline.specs.Replies.{lineTickOf, replyBuffer}
-use Rattle.images.specs.StateImage.{stateLength, imageOf}
+use Rattle.images.specs.StateImage.{stateLength, imageOf, stateAt, grownOf}
+use Rattle.images.specs.Possible.{possible}
 use Rattle.images.specs.GivenImage.{givenIn}
-use Rattle.images.specs.Images.{stateIn}
+use Rattle.images.specs.Images.{earlierRefusal, stateIn}
 use Rattle.board.specs.AskedBy.{isRequest, requestBy}
 use Rattle.board.specs.AnswerImage.{answerLength, answerBuffer}
 
@@ -58,6 +59,16 @@ openAnswer l n = callRefusal (givenIn l .refusal) (lengthRefusal n) (givenBy l)
 
 unfoldable pub openImage : List ℕ → List ℕ → List ℕ
 openImage l t = unless (openAnswer l (length t)) (imageOf openState) t
+
+-- ---- A5: grow, "an old image opens with none waiting". Of the state's buffer only the length is asked; e is the earlier image
+unfoldable pub earlierBy : List ℕ → List ℕ → ℕ
+earlierBy l e = cond (eqb (earlierRefusal e) 0) (cond (possible (settingsBy l) (stateAt e)) 0 21) (earlierRefusal e)
+
+unfoldable pub growAnswer : List ℕ → List ℕ → ℕ → ℕ
+growAnswer l e n = callRefusal (givenIn l .refusal) (imagesRefusal (lengthRefusal n) (earlierBy l e)) (givenBy l)
+
+unfoldable pub growImage : List ℕ → List ℕ → List ℕ → List ℕ
+growImage l e t = unless (growAnswer l e (length t)) (grownOf e) t
 
 -- ---- tick and line: an answer buffer that is too short is 14, tested after 20, 21 and 10, and nothing is done
 abbrev pub ifRoom : {A : Type 0} → List ℕ → A → A → A

@@ -1,11 +1,16 @@
 -- What the steps of a tick in the buffer of its state hand on from one to the next: what the request that is done tells, and the weights;
--- and the answer, which they put in two. No promise of a C call names these.
+-- step 4, done in two: the requests of the batch, and those beside them; and the answer, which they put in two. No promise of a C call
+-- names these.
 use Prim.Native.Nat.{ℕ}
 use mathlib.Core.Bool.{Bool, true, false, cond}
 use mathlib.Core.List.{List, [], _∷_, _++_}
 use Rattle.places.specs.Places.{Place, row, putAll, flagTag}
 use Rattle.types.specs.declared.daybook.Closed.{Closed}
 use Rattle.types.specs.declared.machine.Answer.{Answer}
+use Rattle.types.specs.declared.machine.State.{State}
+use Rattle.outline.specs.Stages.{startSequence, dischargeSequence}
+use Rattle.outline.specs.Parts.{withSequence}
+use Rattle.outline.specs.Requests.{stoppedOf, storedOf}
 use Rattle.outline.specs.Numbers.{stageNumber, analogNumber}
 use Rattle.board.specs.AnswerImage.{weightRows, weightNumbers, gateRows, gateNumbers, signalRows, signalNumbers, lengthByte}
 use Rattle.board.specs.AnswerImage.{closedFlag, grossRows, grossNumbers, closedBook, dayRows, dayNumbers, valueRows, valueNumbers}
@@ -50,6 +55,37 @@ keyedBy request.ShowGross = false
 keyedBy request.ShowNet = false
 keyedBy request.DayClose = false
 keyedBy request.Discharge = false
+
+-- the request but for those of the batch, which turn the sequence or write setpoints, and what these make of the state
+abbrev pub besideBatch : Request → Request
+besideBatch request.Nothing = request.Nothing
+besideBatch request.Zero = request.Zero
+besideBatch request.Tare = request.Tare
+besideBatch request.TareClear = request.TareClear
+besideBatch request.Start = request.Nothing
+besideBatch request.Stop = request.Nothing
+besideBatch (request.Set p) = request.Nothing
+besideBatch request.TotalClear = request.TotalClear
+besideBatch request.Undo = request.Undo
+besideBatch request.ShowGross = request.ShowGross
+besideBatch request.ShowNet = request.ShowNet
+besideBatch request.DayClose = request.DayClose
+besideBatch request.Discharge = request.Nothing
+
+abbrev pub batchDone : State → Request → State
+batchDone st request.Nothing = st
+batchDone st request.Zero = st
+batchDone st request.Tare = st
+batchDone st request.TareClear = st
+batchDone st request.Start = withSequence st startSequence
+batchDone st request.Stop = stoppedOf st
+batchDone st (request.Set p) = storedOf st p
+batchDone st request.TotalClear = st
+batchDone st request.Undo = st
+batchDone st request.ShowGross = st
+batchDone st request.ShowNet = st
+batchDone st request.DayClose = st
+batchDone st request.Discharge = withSequence st (dischargeSequence (st .sequence))
 
 -- ---- the answer in two: the closed day, put where step 4 closes it, and all the rest, put at the end
 abbrev pub closedRows : List Place

@@ -5,7 +5,7 @@ use mathlib.Core.Path.{_≡_}
 use mathlib.Core.Bool.{Bool, cond}
 use mathlib.Core.List.{List, [], _∷_}
 use lib.Dec.{leb}
-use lib.ListN.{length}
+use lib.ListN.{length, take}
 use lib.IntN.{ℤ}
 use Rattle.types.specs.declared.settings.Given.{Given}
 use Rattle.types.specs.declared.settings.Settings.{Settings}
@@ -15,12 +15,14 @@ use Rattle.types.specs.declared.machine.Input.{Input}
 use Rattle.settings.specs.Held.{Held}
 use Rattle.outline.specs.Limits.{blockLimit}
 use Rattle.outline.specs.Settings.{openOf}
+use Rattle.outline.specs.Setpoints.{noneWaiting}
 use Rattle.outline.specs.Replies.{lineTickOf}
 use Rattle.outline.specs.Run.{History, start, runOf, runFrom, thenAll, blockInputs, lineInput}
-use Rattle.images.specs.StateImage.{stateLength, imageOf}
+use Rattle.images.specs.StateImage.{stateLength, earlierLength, imageOf, stateAt}
 use Rattle.images.specs.GivenImage.{givenImage}
 use Rattle.board.specs.AnswerImage.{lengthByte}
-use Rattle.board.specs.Board.{settingsBy, stateBy, refusalBy, openImage, ifRoom, inputBy, tickImage, lineImage, blockImage}
+use Rattle.board.specs.Board.{settingsBy, stateBy, refusalBy, openImage, growAnswer, growImage, ifRoom, inputBy}
+use Rattle.board.specs.Board.{tickImage, lineImage, blockImage}
 
 -- a call: a tick has its count, contact, request, points and answer buffer; a line its count, contact, receive, reply and answer buffer;
 -- a block its counts and contact
@@ -72,6 +74,22 @@ OpensARun = (g : Given) (s : Settings) → Held g → openOf g ≡ opening.Accep
 abbrev pub CallsAreRuns : Type 0
 CallsAreRuns = (g : Given) (s : Settings) → Held g → openOf g ≡ opening.Accepted s → (h : History Input) (cs : List Call)
     → imageRun (givenImage g) (imageOf (runOf s h)) cs ≡ imageOf (runOf s (historyOf s h cs))
+
+-- ---- A5: what an earlier image grows to is not refused, and holds its state, in which nothing waits; so CallsAreTicks speaks of it
+pub record GrownTo (l e t : List ℕ) : Type 0 where
+  pub passes : refusalBy l (growImage l e t) ≡ 0
+  pub state : stateBy l (growImage l e t) ≡ stateAt e
+  pub none : stateAt e .waiting ≡ noneWaiting
+
+abbrev pub GrowsPass : Type 0
+GrowsPass = (l e t : List ℕ) → growAnswer l e (length t) ≡ 0 → GrownTo l e t
+
+-- and no image that an earlier program kept is refused: that of a run in which nothing waits, less the bytes that it lacked, grows to the
+-- run's
+abbrev pub GrowsARun : Type 0
+GrowsARun = (g : Given) (s : Settings) → Held g → openOf g ≡ opening.Accepted s → (h : History Input) → runOf s h .waiting ≡ noneWaiting
+    → (t : List ℕ) → length t ≡ stateLength
+    → growImage (givenImage g) (take earlierLength (imageOf (runOf s h))) t ≡ imageOf (runOf s h)
 
 -- ---- the byte for a reply's length holds all of it
 abbrev pub LengthTold : Type 0

@@ -1,6 +1,6 @@
-// The calls of board/pressgully.h. Between them nothing is kept: the state lies in the caller's 256 bytes, the settings in the caller's
+// The calls of board/pressgully.h. Between them nothing is kept: the state lies in the caller's 288 bytes, the settings in the caller's
 // 128. A call judges both images, bytes and ranges, and runs its ticks in the buffer of the state; a refused one changes no byte of any
-// buffer. An opening asks for the length of the state's buffer alone.
+// buffer. An opening and a growth ask of the state's buffer its length alone; a growth judges the earlier image in its place.
 ghost use mathlib.Core.Path.{_≡_};
 ghost use mathlib.Core.Bool.{cond};
 ghost use lib.ListN.{length};
@@ -10,11 +10,12 @@ ghost use Rattle.outline.specs.Tick.{tickOf, blockOf};
 ghost use Rattle.outline.specs.Replies.{lineTickOf, replyBuffer};
 ghost use Rattle.images.specs.GivenImage.{givenLength, givenIn};
 ghost use Rattle.types.specs.declared.machine.State.{State};
-ghost use Rattle.images.specs.StateImage.{imageOf};
+ghost use Rattle.images.specs.StateImage.{earlierLength, imageOf, stateAt};
 ghost use Rattle.images.specs.Images.{bytesRefusal};
-ghost use Rattle.images.specs.Holds.{Tells};
-ghost use Rattle.board.specs.Owed.{CallsAreTicks, OpensARun, CallsAreRuns, LengthTold};
-ghost use Rattle.board.specs.Board.{imagesRefusal, givenBy, lengthRefusal, openAnswer, openImage};
+ghost use Rattle.images.specs.Holds.{Turns, Tells, withPanel};
+ghost use Rattle.outline.specs.Parts.{withBook, withStability, withWeighing, withSetpoints, withSequence, withTotals};
+ghost use Rattle.board.specs.Owed.{CallsAreTicks, OpensARun, CallsAreRuns, GrowsPass, GrowsARun, LengthTold};
+ghost use Rattle.board.specs.Board.{imagesRefusal, givenBy, lengthRefusal, openAnswer, openImage, growAnswer, growImage};
 ghost use Rattle.board.specs.Board.{ifRoom, roomAnswer, roomImage, roomBuffer, inputOf, toldOf};
 ghost use Rattle.board.specs.Board.{tickAnswer, tickImage, tickBuffer, lineAnswer, lineImage, lineReply, lineBuffer};
 ghost use Rattle.board.specs.Board.{blockAnswer, blockImage};
@@ -25,8 +26,23 @@ use commands::command_of;
 use controller::opening::open;
 use images::given::given_at;
 use images::given::given_refusal;
+use images::parts::book_at;
+use images::parts::panel_at;
+use images::parts::put_book;
+use images::parts::put_panel;
+use images::parts::put_sequence;
+use images::parts::put_setpoints;
+use images::parts::put_stability;
+use images::parts::put_totals;
+use images::parts::put_weighing;
+use images::parts::sequence_at;
+use images::parts::setpoints_at;
+use images::parts::stability_at;
+use images::parts::totals_at;
+use images::parts::weighing_at;
 use images::possible::is_possible;
 use images::state::bytes_refusal;
+use images::state::earlier_refusal;
 use numbers::outcome_number;
 use numbers::told_number;
 use replies::Wrote;
@@ -42,7 +58,7 @@ mod asked;
 mod steps;
 
 // The bytes of a state image, and of an answer.
-const STATE_LENGTH: usize = 256;
+const STATE_LENGTH: usize = 288;
 
 const ANSWER_LENGTH: usize = 64;
 
@@ -107,6 +123,57 @@ pub extern "C" fn pressgully_open(settings: &[u8], state: &mut [u8]) -> u32
     }
 }
 
+// The parts of an earlier image into a state's buffer, in two: what is weighed, and what is batched. What waits is in neither.
+fn put_weighed(earlier: &[u8], state: &mut [u8])
+    ensures { λ _.
+        ⌜ (length (now (earlier .entry)) ≡ earlierLength → Turns (now (state .entry)) (now (state .exit)) (λ (st : State).
+        let e = stateAt (now (earlier .entry)) in
+        withPanel (withWeighing (withStability (withBook st (e .book)) (e .stability)) (e .weighing)) (e .panel))) ⌝ }
+{
+    put_book(state, book_at(earlier));
+    put_stability(state, stability_at(earlier));
+    put_weighing(state, weighing_at(earlier));
+    put_panel(state, panel_at(earlier));
+}
+
+fn put_batched(earlier: &[u8], state: &mut [u8])
+    ensures { λ _.
+        ⌜ (length (now (earlier .entry)) ≡ earlierLength → Turns (now (state .entry)) (now (state .exit)) (λ (st : State).
+        let e = stateAt (now (earlier .entry)) in
+        withTotals (withSequence (withSetpoints st (e .setpoints)) (e .sequence)) (e .totals))) ⌝ }
+{
+    put_setpoints(state, setpoints_at(earlier));
+    put_sequence(state, sequence_at(earlier));
+    put_totals(state, totals_at(earlier));
+}
+
+// Makes the present image of an earlier one. What the bytes of the state's buffer were is not asked.
+#[no_mangle]
+pub extern "C" fn pressgully_grow(settings: &[u8], earlier: &[u8], state: &mut [u8]) -> u32
+    ensures told { λ r. ⌜ r ≡ growAnswer (now (settings .entry)) (now (earlier .entry)) (length (now (state .entry))) ⌝ }
+    ensures image { λ _. ⌜ now (state .exit) ≡ growImage (now (settings .entry)) (now (earlier .entry)) (now (state .entry)) ⌝ }
+{
+    let n = state.len();
+    let bytes = images_refusal(length_refusal(n), earlier_refusal(earlier));
+    let why = images_refusal(given_refusal(settings), bytes);
+    if why != 0 {
+        return why as u32;
+    }
+    if !is_possible(settings, earlier) {
+        return 21;
+    }
+    match opened(settings) {
+        Opening::Refused => return 10,
+        Opening::Accepted(_) => {
+            // in the opening state, all bytes 0, nothing waits
+            places::clear(state);
+            put_weighed(earlier, state);
+            put_batched(earlier, state);
+            return 0;
+        }
+    }
+}
+
 // The number of a tick's answer; 13 where it was asked by a number that is no request.
 fn told_by(known: bool, outcome: Outcome) -> u8
     ensures { λ r. ⌜ r ≡ cond known (outcomeNumber outcome) 13 ⌝ }
@@ -149,6 +216,7 @@ fn run_tick(
     let outcome = steps::ruled(s, x, request, state);
     let done = requests::granted(outcome, request);
     steps::settle(done, x, state, answer);
+    steps::settle_batch(done, state);
     x = steps::again(s, x, state);
     // 5. Tracking.
     steps::track(s, steps::is_keyed(done), x, state);
@@ -237,6 +305,7 @@ fn run_line(
             // 4. The line's request.
             let done = requests::granted(outcome, request);
             steps::settle(done, x, state, answer);
+            steps::settle_batch(done, state);
             x = steps::again(s, x, state);
             // 5. Tracking.
             steps::track(s, steps::is_keyed(done), x, state);
@@ -351,5 +420,7 @@ pub fn every_call()
     ensures ticks { λ r. ⌜ CallsAreTicks ⌝ }
     ensures opens { λ r. ⌜ OpensARun ⌝ }
     ensures runs { λ r. ⌜ CallsAreRuns ⌝ }
+    ensures grows { λ r. ⌜ GrowsPass ⌝ }
+    ensures grows_a_run { λ r. ⌜ GrowsARun ⌝ }
     ensures length { λ r. ⌜ LengthTold ⌝ }
 {}

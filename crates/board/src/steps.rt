@@ -6,21 +6,23 @@ ghost use mathlib.Core.Path.{_≡_};
 ghost use Rattle.types.specs.declared.machine.State.{State};
 ghost use Rattle.outline.specs.Weight.{rawOf};
 ghost use Rattle.outline.specs.DayBook.{closedOf};
+ghost use mathlib.Core.Bool.{true, false};
 ghost use Rattle.outline.specs.Parts.{withBook, withDisplay, withWeighing, withSequence, withTotals, pickState};
-ghost use Rattle.outline.specs.Stages.{stopSequence, dischargeSequence};
+ghost use Rattle.outline.specs.Stages.{idleOf, dischargeSequence};
 ghost use Rattle.outline.specs.Totals.{bookedTotals, bookedSequence, takenBack};
 ghost use Rattle.outline.specs.Zero.{zeroedOf, taredOf, trackedOf};
-ghost use Rattle.outline.specs.Requests.{idleNow, rulingOf, grantedOf};
+ghost use Rattle.outline.specs.Requests.{idleNow, rulingOf, comesIn, stoppedOf, storedOf, grantedOf};
 ghost use Rattle.outline.specs.Steps.{answeredOf};
 ghost use Rattle.outline.specs.Tick.{enteredOf, weightsOf, steppedOf, readingOf, outputsOf};
 ghost use Rattle.outline.specs.Replies.{replyText, replyDue, writtenOf};
 ghost use Rattle.replies.specs.Wrote.{wroteOf};
 ghost use Rattle.images.specs.Holds.{Holds, Turns, Tells};
-ghost use Rattle.board.specs.InPlace.{rawIn, heldBy, keyedBy, closedPut, outputsPut};
+ghost use Rattle.board.specs.InPlace.{rawIn, heldBy, keyedBy, besideBatch, batchDone, closedPut, outputsPut};
 use crate::answer::put_day;
 use crate::answer::put_none;
 use crate::answer::put_outputs;
 use images::parts::book_at;
+use images::parts::clear_waiting;
 use images::parts::panel_at;
 use images::parts::put_book;
 use images::parts::put_panel;
@@ -28,13 +30,16 @@ use images::parts::put_sequence;
 use images::parts::put_setpoints;
 use images::parts::put_stability;
 use images::parts::put_totals;
+use images::parts::put_waiting;
 use images::parts::put_weighing;
 use images::parts::sequence_at;
 use images::parts::setpoints_at;
 use images::parts::stability_at;
 use images::parts::totals_at;
+use images::parts::waiting_at;
 use images::parts::weighing_at;
 use replies::Wrote;
+use setpoints::waiting::none_waiting;
 use types::daybook::Closed;
 use types::lines::Command;
 use types::machine::State;
@@ -42,6 +47,8 @@ use types::requests::Outcome;
 use types::requests::Request;
 use types::settings::Settings;
 use types::stages::Sequence;
+use types::stages::Setpoints;
+use types::stages::Write;
 use types::weight::Display;
 use types::weight::Panel;
 use types::weight::Raw;
@@ -118,7 +125,8 @@ fn show(display: Display, state: &mut [u8])
 }
 
 // The reply that is due to a line, into its buffer. A read changes nothing in step 4, so that what stands before it is what step 4 leaves.
-// Of the state a reply asks for the panel, the setpoints and the totals; the other parts stand as at the opening, and are not looked at.
+// Of the state a reply asks for the panel, both sets of setpoints and the totals; the other parts stand as at the opening, and are not
+// looked at.
 pub(crate) fn reply(
     s: Settings,
     command: Command,
@@ -136,6 +144,7 @@ pub(crate) fn reply(
 {
     let panel = panel_at(state);
     let setpoints = setpoints_at(state);
+    let waiting = waiting_at(state);
     let totals = totals_at(state);
     let shown = State {
         book: daybook::open_book(),
@@ -151,6 +160,7 @@ pub(crate) fn reply(
         },
         panel,
         setpoints,
+        waiting,
         sequence: batch::sequence::open_sequence(),
         totals,
     };
@@ -175,11 +185,44 @@ fn put_tare(tare: i32, state: &mut [u8])
     put_weighing(state, zero::tared(weighing, tare));
 }
 
+// The stage has returned to 00: what waits is in use, and nothing waits any more.
+fn bring_in(state: &mut [u8])
+    ensures { λ _. ⌜ Turns (now (state .entry)) (now (state .exit)) (λ (st : State). comesIn true st) ⌝ }
+{
+    let waiting = waiting_at(state);
+    let write = waiting.write;
+    match write {
+        Write::Nothing => return,
+        Write::Points(p) => {
+            put_setpoints(state, p);
+            return clear_waiting(state);
+        }
+    }
+}
+
+// In 00 a stop changes nothing.
 fn stop(state: &mut [u8])
-    ensures { λ _. ⌜ Turns (now (state .entry)) (now (state .exit)) (λ (st : State). withSequence st (stopSequence (st .sequence))) ⌝ }
+    ensures { λ _. ⌜ Turns (now (state .entry)) (now (state .exit)) (λ (st : State). stoppedOf st) ⌝ }
 {
     let sequence = sequence_at(state);
+    let stage = sequence.stage;
+    if batch::sequence::is_idle(stage) {
+        return;
+    }
     put_sequence(state, batch::sequence::stop_sequence(sequence));
+    bring_in(state);
+}
+
+// Setpoints are in use at once in 00, and wait in any other stage.
+fn store(p: Setpoints, state: &mut [u8])
+    ensures { λ _. ⌜ Turns (now (state .entry)) (now (state .exit)) (λ (st : State). storedOf st p) ⌝ }
+{
+    let sequence = sequence_at(state);
+    let stage = sequence.stage;
+    if batch::sequence::is_idle(stage) {
+        return put_setpoints(state, p);
+    }
+    put_waiting(state, p);
 }
 
 fn discharge(state: &mut [u8])
@@ -197,13 +240,13 @@ fn take_back(state: &mut [u8])
     put_totals(state, totals::take_back(totals));
 }
 
-// 4. What is done of the request, d: it changes at most one part of the state. A day that it closes goes into the answer. What reads a part
-// before it writes it is a function of its own above, so that here each request is one line.
+// 4. What is done of the request, d, but for those that `settle_batch` has: it changes at most one part of the state. A day that it closes
+// goes into the answer. What reads a part before it writes it is a function of its own above, so that here each request is one line.
 pub(crate) fn settle(d: Request, x: Weights, state: &mut [u8], answer: &mut [u8])
-    ensures state { λ _. ⌜ Turns (now (state .entry)) (now (state .exit)) (λ (st : State). grantedOf st x d .state) ⌝ }
+    ensures state { λ _. ⌜ Turns (now (state .entry)) (now (state .exit)) (λ (st : State). grantedOf st x (besideBatch d) .state) ⌝ }
     ensures day { λ _.
         ⌜ Tells (now (state .entry)) (λ (st : State).
-        now (answer .exit) ≡ closedPut (grantedOf st x d .closed) (now (answer .entry))) ⌝ }
+        now (answer .exit) ≡ closedPut (grantedOf st x (besideBatch d) .closed) (now (answer .entry))) ⌝ }
 {
     put_none(answer);
     match d {
@@ -211,15 +254,29 @@ pub(crate) fn settle(d: Request, x: Weights, state: &mut [u8], answer: &mut [u8]
         Request::Zero => return key_zero(x.raw, state),
         Request::Tare => return put_tare(x.gross, state),
         Request::TareClear => return put_tare(0, state),
-        Request::Start => return put_sequence(state, batch::sequence::start_sequence()),
-        Request::Stop => return stop(state),
-        Request::Set(p) => return put_setpoints(state, p),
+        Request::Start => return,
+        Request::Stop => return,
+        Request::Set(_) => return,
         Request::TotalClear => return put_totals(state, totals::clear_totals()),
         Request::Undo => return take_back(state),
         Request::ShowGross => return show(Display::Gross, state),
         Request::ShowNet => return show(Display::Net, state),
         Request::DayClose => return close(state, answer),
+        Request::Discharge => return,
+    }
+}
+
+// 4. The requests of the batch, which turn the sequence or write setpoints. They stand apart from the others so that not both frames are
+// held at once.
+pub(crate) fn settle_batch(d: Request, state: &mut [u8])
+    ensures { λ _. ⌜ Turns (now (state .entry)) (now (state .exit)) (λ (st : State). batchDone st d) ⌝ }
+{
+    match d {
+        Request::Start => return put_sequence(state, batch::sequence::start_sequence()),
+        Request::Stop => return stop(state),
+        Request::Set(p) => return store(p, state),
         Request::Discharge => return discharge(state),
+        _ => return,
     }
 }
 
@@ -269,9 +326,11 @@ fn book_batch(v: i64, after: Sequence, state: &mut [u8])
     put_totals(state, totals::booked_totals(totals, v));
 }
 
-// Step 6 of the sequence that the buffer holds, which its caller has read already.
+// Step 6 of the sequence that the buffer holds, which its caller has read already and found outside 00.
 fn go_on(s: Settings, sequence: Sequence, x: Weights, state: &mut [u8])
-    ensures { λ _. ⌜ Tells (now (state .entry)) (λ (st : State). sequence ≡ st .sequence → Holds (now (state .exit)) (steppedOf s st x)) ⌝ }
+    ensures { λ _.
+        ⌜ Tells (now (state .entry)) (λ (st : State).
+        sequence ≡ st .sequence → idleOf (st .sequence .stage) ≡ false → Holds (now (state .exit)) (steppedOf s st x)) ⌝ }
 {
     let batching = s.batching;
     let mode = batching.mode;
@@ -279,10 +338,18 @@ fn go_on(s: Settings, sequence: Sequence, x: Weights, state: &mut [u8])
     let fit = weight::is_fit(x);
     let setpoints = setpoints_at(state);
     let a = batch::advance(s.batching, setpoints, sequence, !fit, v, x.stable, x.gross);
-    if a.finished {
-        return book_batch(v, a.sequence, state);
+    let after = a.sequence;
+    let next = after.stage;
+    if !batch::sequence::is_idle(next) {
+        return put_sequence(state, after);
     }
-    put_sequence(state, a.sequence);
+    // The stage returns to 00: after judgement and booking what waits is in use.
+    if a.finished {
+        book_batch(v, after, state);
+        return bring_in(state);
+    }
+    put_sequence(state, after);
+    bring_in(state);
 }
 
 // 6. Sequence, passed over where step 4 says so. In stage 00 it has nothing to do.
@@ -332,6 +399,7 @@ pub(crate) fn answer(
         },
         panel,
         setpoints,
+        waiting: none_waiting(),
         sequence,
         totals: totals::clear_totals(),
     };

@@ -23,7 +23,8 @@ pub fn run_block(s: Settings, mut st: State, counts: &[i32], contact: bool) -> B
             state: st,
         };
     }
-    // No tick of a block changes the setpoints: with a copy of them the state itself is lent to no call, and stays where it is quick.
+    // The setpoints in use change at most once, in the tick that returns to 00, and no later tick of the block compares: this copy serves
+    // every tick that does. With it the state itself is lent to no call, and stays where it is quick.
     let points = st.setpoints;
     let batching = s.batching;
     let mode = batching.mode;
@@ -42,12 +43,16 @@ pub fn run_block(s: Settings, mut st: State, counts: &[i32], contact: bool) -> B
             let v = batch::comparison::compared(mode, x);
             let fit = weight::is_fit(x);
             let a = batch::advance(s.batching, points, st.sequence, !fit, v, x.stable, x.gross);
-            if a.finished {
-                st.sequence = totals::booked_sequence(st.totals, v, a.sequence);
-                st.totals = totals::booked_totals(st.totals, v);
-            } else {
-                let after = a.sequence;
-                st.sequence = after;
+            let after = a.sequence;
+            let next = after.stage;
+            st.sequence = after;
+            if batch::sequence::is_idle(next) {
+                if a.finished {
+                    st.sequence = totals::booked_sequence(st.totals, v, after);
+                    st.totals = totals::booked_totals(st.totals, v);
+                }
+                st.setpoints = setpoints::waiting::latest(points, st.waiting);
+                st.waiting = setpoints::waiting::none_waiting();
             }
         }
         i += 1;

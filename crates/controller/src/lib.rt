@@ -32,7 +32,7 @@ pub fn tick(s: Settings, mut st: State, i: Input) -> Ticked
     st.book = daybook::book_tick(st.book, raw, i.contact);
     // 3. Gross, overload, stability.
     let x = weight::weigh(s, st.stability, st.weighing, raw, i.contact);
-    // 4. The tick's request. What is done of it changes one part of the state.
+    // 4. The tick's request. What is done of it changes one part of the state; a stop also brings waiting setpoints into use.
     let request = i.request;
     let batching = s.batching;
     let mode = batching.mode;
@@ -58,11 +58,24 @@ pub fn tick(s: Settings, mut st: State, i: Input) -> Ticked
             held = true;
         }
         Request::Stop => {
-            st.sequence = batch::sequence::stop_sequence(st.sequence);
             held = true;
+            let sequence = st.sequence;
+            let stage = sequence.stage;
+            if !batch::sequence::is_idle(stage) {
+                st.sequence = batch::sequence::stop_sequence(st.sequence);
+                st.setpoints = setpoints::waiting::latest(st.setpoints, st.waiting);
+                st.waiting = setpoints::waiting::none_waiting();
+            }
         }
+        // Outside 00 a write waits.
         Request::Set(p) => {
-            st.setpoints = p;
+            let sequence = st.sequence;
+            let stage = sequence.stage;
+            if batch::sequence::is_idle(stage) {
+                st.setpoints = p;
+            } else {
+                st.waiting = setpoints::waiting::waiting_for(p);
+            }
         }
         Request::TotalClear => {
             st.totals = totals::clear_totals();
@@ -113,12 +126,17 @@ pub fn tick(s: Settings, mut st: State, i: Input) -> Ticked
                 served.stable,
                 served.gross,
             );
-            if a.finished {
-                st.sequence = totals::booked_sequence(st.totals, v, a.sequence);
-                st.totals = totals::booked_totals(st.totals, v);
-            } else {
-                let after = a.sequence;
-                st.sequence = after;
+            let after = a.sequence;
+            let next = after.stage;
+            st.sequence = after;
+            if batch::sequence::is_idle(next) {
+                // The stage returns to 00: after judgement and booking what waits is in use.
+                if a.finished {
+                    st.sequence = totals::booked_sequence(st.totals, v, after);
+                    st.totals = totals::booked_totals(st.totals, v);
+                }
+                st.setpoints = setpoints::waiting::latest(st.setpoints, st.waiting);
+                st.waiting = setpoints::waiting::none_waiting();
             }
         }
     }

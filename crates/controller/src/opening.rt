@@ -40,6 +40,7 @@ pub fn open_state(_accepted: Settings) -> State
             display: Display::Gross,
         },
         setpoints: setpoints::open_setpoints(),
+        waiting: setpoints::waiting::none_waiting(),
         sequence: batch::sequence::open_sequence(),
         totals: totals::clear_totals(),
     }

@@ -36,12 +36,16 @@ pub fn unasked_tick(s: Settings, mut st: State, count: i32, contact: bool) -> Ti
             x.stable,
             x.gross,
         );
-        if a.finished {
-            st.sequence = totals::booked_sequence(st.totals, v, a.sequence);
-            st.totals = totals::booked_totals(st.totals, v);
-        } else {
-            let after = a.sequence;
-            st.sequence = after;
+        let after = a.sequence;
+        let next = after.stage;
+        st.sequence = after;
+        if batch::sequence::is_idle(next) {
+            if a.finished {
+                st.sequence = totals::booked_sequence(st.totals, v, after);
+                st.totals = totals::booked_totals(st.totals, v);
+            }
+            st.setpoints = setpoints::waiting::latest(st.setpoints, st.waiting);
+            st.waiting = setpoints::waiting::none_waiting();
         }
     }
     Ticked {

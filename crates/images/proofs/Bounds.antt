@@ -16,6 +16,8 @@ use Rattle.types.specs.declared.settings.Settings.{Settings}
 use Rattle.types.specs.declared.daybook.Book.{Book}
 use Rattle.types.specs.declared.weight.Weighing.{Weighing}
 use Rattle.types.specs.declared.stages.Setpoints.{Setpoints}
+use Rattle.types.specs.declared.stages.Write.{Write}
+use Rattle.types.specs.declared.stages.Write.the-variants as write
 use Rattle.types.specs.declared.stages.Stage.{Stage}
 use Rattle.types.specs.declared.stages.Stage.the-variants.{Idle, StartDelay, LargeDisable, LargeFlow, MediumDisable, MediumFlow, SmallDisable, SmallFlow, JudgeDelay, JudgeWait, DischargeStart, Discharge, DischargeEnd}
 use Rattle.types.specs.declared.stages.Batch.{Batch}
@@ -27,11 +29,12 @@ use Rattle.outline.specs.Limits.{trackTimeLimit, trackWidthLimit, allowanceLimi
 use Rattle.outline.specs.Settings.{fromTo, trackingFits, stabilityFits, delaysFit, flowFits, dischargeFits, settingsOf}
 use Rattle.outline.specs.Stages.{flowingOf, emptyingOf}
 use Rattle.outline.specs.Owed.{Accepted, Kept}
-use Rattle.outline.specs.Ranges.{BookRange, WeighingRange, TimerRange, SequenceRange, BackRange, TotalsRange, StateRange}
+use Rattle.outline.specs.Ranges.{BookRange, WeighingRange, TimerRange, SequenceRange, BackRange, TotalsRange, writeFits, StateRange}
 use Rattle.outline.proofs.Opened.{Rows, passed, rows}
 use Rattle.outline.proofs.RangeGuard.{Bounded, bounded, up-to}
 use Rattle.outline.proofs.SetpointLaw.{setpoint-law}
-use Rattle.images.specs.StateImage.{stageTimer, backWeight}
+use Rattle.images.specs.StateImage.{stageTimer, backWeight, writePoints}
+use Rattle.images.proofs.NameLaws.{none-held}
 use Rattle.images.specs.Holds.{HeldBook, HeldWeighing, HeldSetpoints, HeldSequence, HeldTotals, HeldState}
 
 -- ---- what accepted settings bound, beside capacity, zero range and division
@@ -122,6 +125,12 @@ setpoints-held s k = record {
   near = omega (arith, k .near);
 }
 
+-- what waits keeps the same rules; where nothing does, all are 0
+waiting-held : (s : Settings) (w : Write) → writeFits (s .batching .mode) w ≡ true → HeldSetpoints (writePoints w)
+unfolding writePoints
+waiting-held s write.Nothing h = none-held
+waiting-held s (write.Points p) h = setpoints-held s (setpoint-law (s .batching .mode) p .0 h)
+
 timer-held : (b : Batching) → Delays b → (g : Stage) → TimerRange b g → stageTimer g < 2 ^ 16
 unfolding stageTimer
 timer-held b d Idle h = omega arith
@@ -173,6 +182,7 @@ range-held s a st r =
       run = omega (arith, r .stability .run, t .steadiness);
       weighing = weighing-held s (st .weighing) (bounded s a) t (r .weighing);
       setpoints = setpoints-held s (setpoint-law (s .batching .mode) (st .setpoints) .0 (r .setpoints));
+      waiting = waiting-held s (st .waiting .write) (r .waiting);
       sequence = sequence-held (s .batching) (st .sequence) (t .batching) (r .sequence);
       totals = totals-held (st .totals) (r .totals);
     }

@@ -32,13 +32,17 @@ use Rattle.types.specs.declared.stages.Sequence.{Sequence}
 use Rattle.types.specs.declared.stages.Batch.{Batch}
 use Rattle.types.specs.declared.stages.Batch.the-variants as batch
 use Rattle.types.specs.declared.stages.Totals.{Totals}
+use Rattle.types.specs.declared.stages.Waiting.{Waiting}
+use Rattle.types.specs.declared.stages.Write.{Write}
+use Rattle.types.specs.declared.stages.Write.the-variants as write
 use Rattle.types.specs.declared.machine.State.{State}
 use Rattle.outline.specs.Limits.{rawLimit, riseLimit, dayTicks, totalLimit, batchLimit}
 use Rattle.outline.specs.Numbers.{stageNumber, errorNumber, judgementNumber}
 use Rattle.outline.specs.Setpoints.{setpointsFit}
+use Rattle.outline.specs.Kinds.{isWrite}
 use Rattle.outline.specs.Zero.{trackingOn}
 use Rattle.outline.specs.Stages.{idleOf, flowingOf, emptyingOf, dischargingOf}
-use Rattle.outline.specs.Ranges.{BookRange, Balanced, StabilityRange, WeighingRange, ofDischarge, TimerRange, SequenceRange, BackRange, TotalsRange, flowFits, TogetherRange, StateRange}
+use Rattle.outline.specs.Ranges.{BookRange, Balanced, StabilityRange, WeighingRange, ofDischarge, TimerRange, SequenceRange, BackRange, TotalsRange, writeFits, flowFits, TogetherRange, StateRange}
 use Rattle.outline.proofs.Parts.{clash, and-yes}
 use Rattle.images.specs.StateImage.{stageTimer, errorOf, judgementOf, backTag, backWeight}
 use Rattle.images.specs.Possible.{blankBook, balances, bookPossible, stabilityPossible, weighingPossible, timeOf, clockLimit, isNormal, sequenceFits, sequencePossible, totalsPossible, flowPossible, togetherFits, togetherPossible, possible}
@@ -371,6 +375,11 @@ count-of true true n h = (λ k. absurd (clash refl k), λ k. absurd (clash refl 
 count-of true false n h = (λ k. eqb-true n 0 h, λ k. eqb-true n 0 h)
 count-of false b n h = (λ k. eqb-true n 0 h, λ k. eqb-true n 0 h)
 
+-- nothing waits
+none-written : (w : Write) → isWrite w ≡ false → w ≡ write.Nothing
+none-written write.Nothing h = refl
+none-written (write.Points p) h = absurd (clash refl h)
+
 module _ (s : Settings) (st : State) where
   abbrev idle : Bool
   idle = idleOf (st .sequence .stage)
@@ -378,23 +387,28 @@ module _ (s : Settings) (st : State) where
   abbrev good : Bool
   good = st .stability .good
 
+  abbrev waits : Bool
+  waits = isWrite (st .waiting .write)
+
   -- the tests after the first, by the stage
   abbrev togetherTests : List Bool
   togetherTests =
-      (idle || good) ∷ (idle && good || eqb (st .weighing .counter) 0) ∷ flowFits (s .batching .mode) (st .setpoints) (st .sequence .stage) ∷ []
+      (idle || good) ∷ (idle && good || eqb (st .weighing .counter) 0) ∷ (not idle || not waits)
+      ∷ flowFits (s .batching .mode) (st .setpoints) (st .sequence .stage) ∷ []
 
   together-by : togetherPossible s st ≡ chain (not good || st .book .begun) togetherTests
   unfolding togetherFits
   together-by =
       let t = told (s .batching) (st .sequence .stage) .idle in
       let f = flow-by (s .batching .mode) (st .setpoints) (st .sequence .stage) in
-      λ i. (not good || st .book .begun) && (t i || good) && (t i && good || eqb (st .weighing .counter) 0) && f i
+      λ i. (not good || st .book .begun) && (t i || good) && (t i && good || eqb (st .weighing .counter) 0) && (not (t i) || not waits) && f i
 
   together-passes : TogetherRange s st → togetherPossible s st ≡ true
   together-passes r =
       let begun = either (not good) (st .book .begun) (λ k. r .begun (not-false good k)) in
       let count = count-passes idle good (st .weighing .counter) (r .resting) (r .unbroken) in
-      together-by ∙ linked (not good || st .book .begun) togetherTests begun (either idle good (r .under-way), (count, (r .flow, tt)))
+      let none = either (not idle) (not waits) (λ k. ap (λ (w : Waiting). not (isWrite (w .write))) (r .none-waits (not-false idle k))) in
+      together-by ∙ linked (not good || st .book .begun) togetherTests begun (either idle good (r .under-way), (count, (none, (r .flow, tt))))
 
   together-of : togetherPossible s st ≡ true → TogetherRange s st
   together-of h =
@@ -405,7 +419,8 @@ module _ (s : Settings) (st : State) where
         under-way = other idle good (l .1 .0);
         resting = count .0;
         unbroken = count .1;
-        flow = l .1 .1 .1 .0;
+        none-waits = λ k. λ i. record { write = none-written (st .waiting .write) (not-true waits (other (not idle) (not waits) (l .1 .1 .1 .0) (ap not k))) i };
+        flow = l .1 .1 .1 .1 .0;
       }
 
 -- ---- the whole
@@ -414,7 +429,7 @@ module _ (s : Settings) (st : State) where
   tests =
       stabilityPossible (s .steadiness) (st .stability) ∷ weighingPossible (s .range) (s .tracking) (st .weighing)
       ∷ setpointsFit (s .batching .mode) (st .setpoints) ∷ sequencePossible (s .batching) (st .sequence) ∷ totalsPossible (st .totals)
-      ∷ togetherPossible s st ∷ []
+      ∷ writeFits (s .batching .mode) (st .waiting .write) ∷ togetherPossible s st ∷ []
 
   pub range-passes : StateRange s st → Balanced (st .book) → possible s st ≡ true
   unfolding possible
@@ -424,7 +439,7 @@ module _ (s : Settings) (st : State) where
       let sequence = sequence-passes (s .batching) (st .sequence) (r .sequence) in
       let totals = totals-passes (st .totals) (r .totals) in
       let together = together-passes s st (r .together) in
-      linked (bookPossible (st .book)) tests (book-passes (st .book) (r .book) e) (stability, (weighing, (r .setpoints, (sequence, (totals, (together, tt))))))
+      linked (bookPossible (st .book)) tests (book-passes (st .book) (r .book) e) (stability, (weighing, (r .setpoints, (sequence, (totals, (r .waiting, (together, tt)))))))
 
   pub range-of : possible s st ≡ true → StateRange s st
   unfolding possible
@@ -437,7 +452,8 @@ module _ (s : Settings) (st : State) where
         setpoints = l .1 .1 .1 .0;
         sequence = sequence-of (s .batching) (st .sequence) (l .1 .1 .1 .1 .0);
         totals = totals-of (st .totals) (l .1 .1 .1 .1 .1 .0);
-        together = together-of s st (l .1 .1 .1 .1 .1 .1 .0);
+        waiting = l .1 .1 .1 .1 .1 .1 .0;
+        together = together-of s st (l .1 .1 .1 .1 .1 .1 .1 .0);
       }
 
   pub balance-of : possible s st ≡ true → Balanced (st .book)

@@ -4,13 +4,13 @@ use Rattle.places.specs.Places.{putBe, putAll, coded, flagTag}
 use Rattle.outline.specs.Settings.{settingsOf}
 use Rattle.outline.specs.Tick.{openState}
 use Rattle.outline.specs.Setpoints.{setpointsFit}
-use Rattle.images.specs.StateImage.{displayNumber, stageTimer, backTag, backWeight, putState, imageOf}
+use Rattle.images.specs.StateImage.{displayNumber, stageTimer, backTag, backWeight, writeTag, writePoints, putState, imageOf}
 use Rattle.images.specs.GivenImage.{putGiven, givenImage}
 use Rattle.images.specs.Possible.{bookPossible, stabilityPossible, weighingPossible, timeOf, clockLimit, sequenceFits, totalsPossible, flowPossible, togetherFits, possible}
 use Rattle.images.specs.Figures.{Imaged, Judged}
 
 pub imaged : Imaged
-unfolding imageOf putState givenImage putGiven putAll putBe coded flagTag displayNumber stageTimer backTag backWeight openState
+unfolding imageOf putState givenImage putGiven putAll putBe coded flagTag displayNumber stageTimer backTag backWeight writeTag writePoints openState
 imaged = record { settings-a = refl; settings-b = refl; opening = refl; mid = refl; feeding = refl; idle = refl; failed = refl; light = refl; unweighed = refl }
 
 pub judged : Judged
@@ -71,4 +71,8 @@ judged = record {
   undo-over = refl;
   undo-of-none = refl;
   total-over = refl;
+  waiting-in-00 = refl;
+  waiting-in-a-batch = refl;
+  waiting-in-a-discharge = refl;
+  waiting-p-not-above-ff = refl;
 }

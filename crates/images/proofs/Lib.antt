@@ -3,8 +3,10 @@ pub mod NameLaws
 pub mod Tables
 pub mod Trip
 pub mod GivenTrip
-pub mod Read
+pub mod Alike
 pub mod Buffers
+pub mod Read
+pub mod Earlier
 pub mod InPlace
 pub mod Decided
 pub mod Bounds

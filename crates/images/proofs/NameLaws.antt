@@ -12,10 +12,13 @@ use Rattle.types.specs.declared.stages.SequenceError.{SequenceError}
 use Rattle.types.specs.declared.stages.SequenceError.the-variants as error
 use Rattle.types.specs.declared.stages.Judgement.{Judgement}
 use Rattle.types.specs.declared.stages.Judgement.the-variants as judgement
+use Rattle.types.specs.declared.stages.Write.{Write}
+use Rattle.types.specs.declared.stages.Write.the-variants as write
 use Rattle.types.specs.declared.stages.Batch.{Batch}
 use Rattle.types.specs.declared.stages.Batch.the-variants as batch
 use Rattle.outline.specs.Numbers.{stageNumber, errorNumber, judgementNumber}
-use Rattle.images.specs.StateImage.{displayNumber, displayOf, stageOf, stageTimer, errorOf, judgementOf, backTag, backWeight, backOf}
+use Rattle.images.specs.Holds.{HeldSetpoints}
+use Rattle.images.specs.StateImage.{displayNumber, displayOf, stageOf, stageTimer, errorOf, judgementOf, backTag, backWeight, backOf, writeTag, writePoints, writeOf}
 
 pub flag-back : (b : Bool) → flagOf (flagTag b) ≡ b
 unfolding flagOf flagTag
@@ -115,3 +118,27 @@ pub back-lt : (b : Batch) → backTag b < 256
 unfolding backTag
 back-lt batch.Nothing = omega arith
 back-lt (batch.Weight v) = omega arith
+
+-- the setpoints that are written
+pub write-back : (w : Write) → writeOf (writeTag w) (writePoints w) ≡ w
+unfolding writeOf writeTag writePoints
+write-back write.Nothing = refl
+write-back (write.Points p) = refl
+
+pub write-lt : (w : Write) → writeTag w < 256
+unfolding writeTag
+write-lt write.Nothing = omega arith
+write-lt (write.Points p) = omega arith
+
+-- and where there are none, all are 0
+pub none-held : HeldSetpoints (writePoints write.Nothing)
+unfolding writePoints
+none-held = record {
+  target = omega arith;
+  fall = omega arith;
+  preliminary = omega arith;
+  optional = omega arith;
+  over = omega arith;
+  under = omega arith;
+  near = omega arith;
+}

@@ -16,11 +16,13 @@ use Rattle.types.specs.declared.daybook.Book.{Book}
 use Rattle.types.specs.declared.machine.State.{State}
 use Rattle.outline.specs.Limits.{rawLimit, riseLimit, dayTicks}
 use Rattle.outline.specs.Setpoints.{setpointsFit}
+use Rattle.outline.specs.Kinds.{isWrite}
+use Rattle.outline.specs.Ranges.{writeFits}
 use Rattle.outline.proofs.Parts.{clash}
-use Rattle.images.specs.StateImage.{stateLength, imageOf, stateAt}
+use Rattle.images.specs.StateImage.{stateLength, earlierLength, imageOf, stateAt, grownOf}
 use Rattle.images.specs.GivenImage.{givenLength, givenImage, givenRefusal}
 use Rattle.images.specs.Possible.{blankBook, balances, bookPossible, stabilityPossible, weighingPossible, sequencePossible, totalsPossible, togetherPossible, restPossible, possible}
-use Rattle.images.specs.Images.{bytesRefusal}
+use Rattle.images.specs.Images.{bytesRefusal, earlierRefusal}
 
 -- ---- the day book: two tests are asked first, since the others' sums need them
 no : (t : Bool) → (t ≡ true → ⊥) → false ≡ t
@@ -55,13 +57,13 @@ module _ (b : Book) where
   unfolding bookPossible
   book-rest p q = passed (leb (b .ticks) dayTicks && leb (natAbs (b .opening)) rawLimit && leb (natAbs (b .last)) rawLimit) _ _ _ _ _ p q
 
--- ---- a state: the day book, the totals and the weighing are asked first, and one that is not possible ends the test
+-- ---- a state: the day book, the totals, the weighing and what waits are asked first, and one that is not possible ends the test
 module _ (s : Settings) (st : State) where
   abbrev parts : List Bool
   parts =
       stabilityPossible (s .steadiness) (st .stability) ∷ weighingPossible (s .range) (s .tracking) (st .weighing)
       ∷ setpointsFit (s .batching .mode) (st .setpoints) ∷ sequencePossible (s .batching) (st .sequence) ∷ totalsPossible (st .totals)
-      ∷ togetherPossible s st ∷ []
+      ∷ writeFits (s .batching .mode) (st .waiting .write) ∷ togetherPossible s st ∷ []
 
   pub not-book : bookPossible (st .book) ≡ false → false ≡ possible s st
   unfolding possible
@@ -75,21 +77,26 @@ module _ (s : Settings) (st : State) where
   unfolding possible
   not-totals e = no _ (λ h. clash (links (bookPossible (st .book)) parts h .1 .1 .1 .1 .1 .0) e)
 
-  four : (q p x g : Bool) → q && p && x && g ≡ true && q && true && p && x && true && g
+  pub not-waiting : writeFits (s .batching .mode) (st .waiting .write) ≡ false → false ≡ possible s st
+  unfolding possible
+  not-waiting e = no _ (λ h. clash (links (bookPossible (st .book)) parts h .1 .1 .1 .1 .1 .1 .0) e)
+
+  four : (q p x g : Bool) → q && p && x && g ≡ true && q && true && p && x && true && true && g
   four false p x g = refl
   four true false x g = refl
   four true true false g = refl
   four true true true g = refl
 
   pub rest : bookPossible (st .book) ≡ true → totalsPossible (st .totals) ≡ true → weighingPossible (s .range) (s .tracking) (st .weighing) ≡ true
-      → restPossible s (st .stability) (st .setpoints) (st .sequence) (st .book .begun) (st .weighing .counter) ≡ possible s st
+      → writeFits (s .batching .mode) (st .waiting .write) ≡ true
+      → restPossible s (st .stability) (st .setpoints) (st .sequence) (st .book .begun) (st .weighing .counter) (isWrite (st .waiting .write)) ≡ possible s st
   unfolding possible restPossible
-  rest b t w =
+  rest b t w v =
       let q = stabilityPossible (s .steadiness) (st .stability) in
       let p = setpointsFit (s .batching .mode) (st .setpoints) in
       let x = sequencePossible (s .batching) (st .sequence) in
       let g = togetherPossible s st in
-      four q p x g ∙ (λ i. sym b i && q && sym w i && p && x && sym t i && g)
+      four q p x g ∙ (λ i. sym b i && q && sym w i && p && x && sym t i && sym v i && g)
 
 -- ---- a settings image
 module _ (l : List ℕ) (g : Given) where
@@ -118,3 +125,17 @@ module _ (l : List ℕ) where
   pub bytes-same : length l ≡ stateLength → sameBytes (imageOf (stateAt l)) l ≡ true → 0 ≡ bytesRefusal l
   unfolding bytesRefusal
   bytes-same n s = simp (eq-eqb (length l) stateLength n, s)
+
+-- ---- and of an earlier one
+module _ (e : List ℕ) where
+  pub earlier-length : (length e ≡ earlierLength → ⊥) → 20 ≡ earlierRefusal e
+  unfolding earlierRefusal
+  earlier-length n = simp (ne-eqb (length e) earlierLength n)
+
+  pub earlier-other : length e ≡ earlierLength → sameBytes (imageOf (stateAt e)) (grownOf e) ≡ false → 21 ≡ earlierRefusal e
+  unfolding earlierRefusal
+  earlier-other n s = simp (eq-eqb (length e) earlierLength n, s)
+
+  pub earlier-same : length e ≡ earlierLength → sameBytes (imageOf (stateAt e)) (grownOf e) ≡ true → 0 ≡ earlierRefusal e
+  unfolding earlierRefusal
+  earlier-same n s = simp (eq-eqb (length e) earlierLength n, s)

@@ -18,15 +18,16 @@ use Rattle.types.specs.declared.weight.Weighing.{Weighing}
 use Rattle.types.specs.declared.stages.Setpoints.{Setpoints}
 use Rattle.types.specs.declared.stages.Sequence.{Sequence}
 use Rattle.types.specs.declared.stages.Totals.{Totals}
+use Rattle.types.specs.declared.stages.Waiting.{Waiting}
 use Rattle.types.specs.declared.machine.State.{State}
 use Rattle.outline.specs.Settings.{settingsOf}
-use Rattle.images.specs.StateImage.{stageTimer, backWeight, stateLength, bookRows, bookNumbers, bookOf, stabilityRows, stabilityNumbers, stabilityOf, weighingRows, weighingNumbers, weighingOf, panelRows, panelNumbers, panelOf, setpointRows, setpointNumbers, setpointsOf, sequenceRows, sequenceNumbers, sequenceOf, totalsRows, totalsNumbers, totalsOf, stateRows, stateNumbers, putState, imageOf, stateAt}
+use Rattle.images.specs.StateImage.{stageTimer, backWeight, stateLength, bookRows, bookNumbers, bookOf, stabilityRows, stabilityNumbers, stabilityOf, weighingRows, weighingNumbers, weighingOf, panelRows, panelNumbers, panelOf, setpointRows, setpointNumbers, setpointsOf, sequenceRows, sequenceNumbers, sequenceOf, totalsRows, totalsNumbers, totalsOf, writePoints, waitingRows, waitingNumbers, waitingOf, stateRows, stateNumbers, putState, imageOf, stateAt}
 use Rattle.images.specs.Holds.{HeldBook, HeldWeighing, HeldSetpoints, HeldSequence, HeldTotals, HeldState}
 use Rattle.images.specs.Possible.{possible}
 use Rattle.images.specs.Images.{stateRefusal, stateIn}
 use Rattle.images.specs.Owed.{good, OneImage, UnusedZero}
 use Rattle.images.proofs.Tables.{table, fit-all}
-use Rattle.images.proofs.NameLaws.{flag-back, flag-lt, display-back, display-lt, stage-back, stage-lt, error-back, error-lt, judgement-back, judgement-lt, back-back, back-lt}
+use Rattle.images.proofs.NameLaws.{flag-back, flag-lt, display-back, display-lt, stage-back, stage-lt, error-back, error-lt, judgement-back, judgement-lt, back-back, back-lt, write-back, write-lt}
 
 -- ---- the numbers of each part of a state
 book-fits : (b : Book) → HeldBook b → Numbers bookRows (bookNumbers b)
@@ -44,6 +45,9 @@ sequence-fits q h = (stage-lt (q .stage), (h .timer, (h .clock, (error-lt (q .er
 totals-fit : (t : Totals) → HeldTotals t → Numbers totalsRows (totalsNumbers t)
 totals-fit t h = (h .total, (h .count, (back-lt (t .back), (h .weight, tt))))
 
+waiting-fits : (w : Waiting) → HeldSetpoints (writePoints (w .write)) → Numbers waitingRows (waitingNumbers w)
+waiting-fits w h = (write-lt (w .write), setpoints-fit (writePoints (w .write)) h)
+
 -- ---- a state from its image
 module _ (st : State) (h : HeldState st) where
   pub numbers-fit : Numbers stateRows (stateNumbers st)
@@ -56,6 +60,7 @@ module _ (st : State) (h : HeldState st) where
       ∷ table setpointRows (setpointNumbers (st .setpoints)) (setpoints-fit (st .setpoints) (h .setpoints))
       ∷ table sequenceRows (sequenceNumbers (st .sequence)) (sequence-fits (st .sequence) (h .sequence))
       ∷ table totalsRows (totalsNumbers (st .totals)) (totals-fit (st .totals) (h .totals))
+      ∷ table waitingRows (waitingNumbers (st .waiting)) (waiting-fits (st .waiting) (h .waiting))
       ∷ []
       )
 
@@ -73,7 +78,8 @@ module _ (st : State) (h : HeldState st) where
         panel = panelOf (take 1 (drop 14 (image-numbers i)));
         setpoints = setpointsOf (take 7 (drop 15 (image-numbers i)));
         sequence = sequenceOf (take 5 (drop 22 (image-numbers i)));
-        totals = totalsOf (drop 27 (image-numbers i));
+        totals = totalsOf (take 4 (drop 27 (image-numbers i)));
+        waiting = waitingOf (drop 31 (image-numbers i));
       })
       ∙ (λ i. record {
         book = record {
@@ -102,6 +108,7 @@ module _ (st : State) (h : HeldState st) where
           judgement = judgement-back (st .sequence .judgement) i;
         };
         totals = record { total = st .totals .total; count = st .totals .count; back = back-back (st .totals .back) i };
+        waiting = record { write = write-back (st .waiting .write) i };
       })
 
 pub image-length : (st : State) → length (imageOf st) ≡ stateLength
@@ -110,7 +117,7 @@ image-length st = put-all-length stateRows (stateNumbers st) (replicate stateLen
 
 -- ---- the tests in their order
 module _ (g : Given) (l : List ℕ) (st : State) where
-  none : length l ≡ stateLength → possible (settingsOf g) st ≡ true → sameBytes (imageOf st) l ≡ true → stateRefusal g l st ≡ 0
+  pub none : length l ≡ stateLength → possible (settingsOf g) st ≡ true → sameBytes (imageOf st) l ≡ true → stateRefusal g l st ≡ 0
   unfolding stateRefusal
   none n p s = simp (eq-eqb (length l) stateLength n, p, s)
 

@@ -24,6 +24,8 @@ use Rattle.types.specs.declared.weight.Stability.{Stability}
 use Rattle.types.specs.declared.weight.Weighing.{Weighing}
 use Rattle.types.specs.declared.machine.State.{State}
 use Rattle.outline.specs.Settings.{settingsOf}
+use Rattle.outline.specs.Setpoints.{noneWaiting, waitingFor}
+use Rattle.outline.specs.Parts.{withWaiting}
 use Rattle.outline.specs.Tick.{openState}
 use Rattle.images.specs.StateImage.{stateLength, imageOf}
 use Rattle.images.specs.GivenImage.{givenLength, givenImage}
@@ -60,7 +62,7 @@ givenLoss = givenOf (set (set listA 24 (pos 1)) 11 (pos 2))
 abbrev pub givenOff : Given
 givenOff = givenOf (set (set listA 24 (pos 1)) 6 (pos 0))
 
--- a batch under settings B, in 06 of a day whose ticks are all booked
+-- a batch under settings B, in 06 of a day whose ticks are all booked; setpoints are waiting
 abbrev pub mid : State
 mid = record {
   book = record {
@@ -77,6 +79,7 @@ mid = record {
   weighing = record { zero = minus 12; tracked = minus 3; tare = pos 1230; counter = 0 };
   panel = record { display = display.Net };
   setpoints = record { target = 30000; fall = 200; preliminary = 5000; optional = 25000; over = 100; under = 150; near = 400 };
+  waiting = waitingFor (record { target = 70000; fall = 301; preliminary = 6000; optional = 45000; over = 258; under = 7; near = 1000 });
   sequence = record { stage = stage.MediumDisable 299; clock = 4660; error = error.None; judgement = judgement.None };
   totals = record { total = 99999999; count = 12345678; back = batch.Weight 77777777 };
 }
@@ -88,7 +91,9 @@ midBytes =
     ∷ at 31 96 ∷ at 33 131 ∷ at 34 214 ∷ at 36 1 ∷ at 37 1 ∷ at 40 1 ∷ at 42 1 ∷ at 43 43 ∷ at 44 255 ∷ at 45 255 ∷ at 46 255 ∷ at 47 244
     ∷ at 48 255 ∷ at 49 255 ∷ at 50 255 ∷ at 51 253 ∷ at 54 4 ∷ at 55 206 ∷ at 58 1 ∷ at 62 117 ∷ at 63 48 ∷ at 67 200 ∷ at 70 19 ∷ at 71 136
     ∷ at 74 97 ∷ at 75 168 ∷ at 79 100 ∷ at 83 150 ∷ at 86 1 ∷ at 87 144 ∷ at 88 6 ∷ at 90 1 ∷ at 91 43 ∷ at 92 18 ∷ at 93 52 ∷ at 100 5
-    ∷ at 101 245 ∷ at 102 224 ∷ at 103 255 ∷ at 105 188 ∷ at 106 97 ∷ at 107 78 ∷ at 108 1 ∷ at 116 4 ∷ at 117 162 ∷ at 118 203 ∷ at 119 113 ∷ []
+    ∷ at 101 245 ∷ at 102 224 ∷ at 103 255 ∷ at 105 188 ∷ at 106 97 ∷ at 107 78 ∷ at 108 1 ∷ at 116 4 ∷ at 117 162 ∷ at 118 203 ∷ at 119 113 ∷ at 256 1
+    ∷ at 261 1 ∷ at 262 17 ∷ at 263 112 ∷ at 266 1 ∷ at 267 45 ∷ at 270 23 ∷ at 271 112 ∷ at 274 175 ∷ at 275 200 ∷ at 278 1 ∷ at 279 2 ∷ at 283 7
+    ∷ at 286 3 ∷ at 287 232 ∷ []
 
 -- a batch in 09, many fields at the end of their range
 abbrev pub feeding : State
@@ -107,6 +112,7 @@ feeding = record {
   weighing = record { zero = pos 2000; tracked = pos 20; tare = pos 9999; counter = 0 };
   panel = record { display = display.Net };
   setpoints = record { target = 999999; fall = 0; preliminary = 1; optional = 0; over = 999999; under = 0; near = 999999 };
+  waiting = noneWaiting;
   sequence = record { stage = stage.SmallFlow; clock = 6000; error = error.None; judgement = judgement.None };
   totals = record { total = 0; count = 0; back = batch.Nothing };
 }
@@ -134,6 +140,7 @@ idle = record {
   weighing = record { zero = minus 12; tracked = minus 12; tare = pos 0; counter = 99 };
   panel = record { display = display.Gross };
   setpoints = record { target = 1000; fall = 20; preliminary = 0; optional = 300; over = 5; under = 5; near = 10 };
+  waiting = noneWaiting;
   sequence = record { stage = stage.Idle; clock = 0; error = error.None; judgement = judgement.Ok };
   totals = record { total = 123456; count = 3; back = batch.Weight 1003 };
 }
@@ -162,6 +169,7 @@ failed = record {
   weighing = record { zero = pos 0; tracked = pos 0; tare = pos 10; counter = 0 };
   panel = record { display = display.Gross };
   setpoints = record { target = 5000; fall = 20; preliminary = 0; optional = 300; over = 5; under = 5; near = 100 };
+  waiting = noneWaiting;
   sequence = record { stage = stage.Idle; clock = 0; error = error.DischargeTime; judgement = judgement.Under };
   totals = record { total = 4990; count = 1; back = batch.Weight 4990 };
 }
@@ -189,6 +197,7 @@ light = record {
   weighing = record { zero = pos 0; tracked = pos 0; tare = pos 0; counter = 0 };
   panel = record { display = display.Gross };
   setpoints = record { target = 1; fall = 0; preliminary = 0; optional = 0; over = 0; under = 0; near = 0 };
+  waiting = noneWaiting;
   sequence = record { stage = stage.Idle; clock = 0; error = error.None; judgement = judgement.Ok };
   totals = record { total = 0; count = 1; back = batch.Weight 0 };
 }
@@ -215,6 +224,7 @@ unweighed = record {
   weighing = record { zero = pos 0; tracked = pos 0; tare = pos 0; counter = 0 };
   panel = record { display = display.Net };
   setpoints = record { target = 1000; fall = 20; preliminary = 0; optional = 0; over = 0; under = 0; near = 0 };
+  waiting = noneWaiting;
   sequence = record { stage = stage.Idle; clock = 0; error = error.None; judgement = judgement.None };
   totals = record { total = 0; count = 0; back = batch.Nothing };
 }
@@ -255,6 +265,7 @@ book st b = record {
   weighing = st .weighing;
   panel = st .panel;
   setpoints = st .setpoints;
+  waiting = st .waiting;
   sequence = st .sequence;
   totals = st .totals;
 }
@@ -266,6 +277,7 @@ steady st good run = record {
   weighing = st .weighing;
   panel = st .panel;
   setpoints = st .setpoints;
+  waiting = st .waiting;
   sequence = st .sequence;
   totals = st .totals;
 }
@@ -277,6 +289,7 @@ weighs st zero tracked tare counter = record {
   weighing = record { zero = zero; tracked = tracked; tare = tare; counter = counter };
   panel = st .panel;
   setpoints = st .setpoints;
+  waiting = st .waiting;
   sequence = st .sequence;
   totals = st .totals;
 }
@@ -288,6 +301,7 @@ stands st g clock e j = record {
   weighing = st .weighing;
   panel = st .panel;
   setpoints = st .setpoints;
+  waiting = st .waiting;
   sequence = record { stage = g; clock = clock; error = e; judgement = j };
   totals = st .totals;
 }
@@ -299,6 +313,7 @@ aims st p = record {
   weighing = st .weighing;
   panel = st .panel;
   setpoints = p;
+  waiting = st .waiting;
   sequence = st .sequence;
   totals = st .totals;
 }
@@ -310,6 +325,7 @@ sums st t = record {
   weighing = st .weighing;
   panel = st .panel;
   setpoints = st .setpoints;
+  waiting = st .waiting;
   sequence = st .sequence;
   totals = t;
 }
@@ -337,6 +353,10 @@ points target fall preliminary optional = record {
   under = 5;
   near = 10;
 }
+
+-- these setpoints wait
+abbrev pub waits : State → Setpoints → State
+waits st p = withWaiting st (waitingFor p)
 
 abbrev pub under : Given → State → Bool
 under g st = possible (settingsOf g) st
@@ -400,3 +420,8 @@ pub record Judged : Type 0 where
   pub undo-over : under givenA (sums idle (record { total = 123456; count = 3; back = batch.Weight 123457 })) ≡ false
   pub undo-of-none : under givenA (sums idle (record { total = 123456; count = 0; back = batch.Weight 1003 })) ≡ false
   pub total-over : under givenA (sums idle (record { total = 100000000; count = 3; back = batch.Weight 1003 })) ≡ false
+  -- what waits
+  pub waiting-in-00 : under givenA (waits idle (points 1000 20 0 300)) ≡ false
+  pub waiting-in-a-batch : under givenA (waits feeding (points 1000 20 0 300)) ≡ true
+  pub waiting-in-a-discharge : under givenA (waits (stands failed (stage.Discharge) 1 error.None judgement.Under) (points 1000 20 0 300)) ≡ true
+  pub waiting-p-not-above-ff : under givenA (waits feeding (points 1000 20 20 300)) ≡ false

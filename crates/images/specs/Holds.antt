@@ -13,7 +13,7 @@ use Rattle.types.specs.declared.stages.Setpoints.{Setpoints}
 use Rattle.types.specs.declared.stages.Sequence.{Sequence}
 use Rattle.types.specs.declared.stages.Totals.{Totals}
 use Rattle.types.specs.declared.machine.State.{State}
-use Rattle.images.specs.StateImage.{stageTimer, backWeight, imageOf}
+use Rattle.images.specs.StateImage.{stageTimer, backWeight, writePoints, imageOf}
 
 -- ---- what the machine holds of a state: each number fits its type
 pub record HeldBook (b : Book) : Type 0 where
@@ -53,6 +53,7 @@ pub record HeldState (st : State) : Type 0 where
   pub run : st .stability .run < 2 ^ 16
   pub weighing : HeldWeighing (st .weighing)
   pub setpoints : HeldSetpoints (st .setpoints)
+  pub waiting : HeldSetpoints (writePoints (st .waiting .write))
   pub sequence : HeldSequence (st .sequence)
   pub totals : HeldTotals (st .totals)
 
@@ -64,6 +65,7 @@ withPanel st x = record {
   weighing = st .weighing;
   panel = x;
   setpoints = st .setpoints;
+  waiting = st .waiting;
   sequence = st .sequence;
   totals = st .totals;
 }

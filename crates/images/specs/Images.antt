@@ -8,7 +8,7 @@ use Rattle.places.specs.Places.{sameBytes}
 use Rattle.types.specs.declared.settings.Given.{Given}
 use Rattle.types.specs.declared.machine.State.{State}
 use Rattle.outline.specs.Settings.{settingsOf}
-use Rattle.images.specs.StateImage.{stateLength, imageOf, stateAt}
+use Rattle.images.specs.StateImage.{stateLength, earlierLength, imageOf, stateAt, grownOf}
 use Rattle.images.specs.Possible.{possible}
 
 -- "20 wrong image length, then 21 impossible field": 21 where the state at the places is not possible under the settings' numbers as they
@@ -25,6 +25,11 @@ stateRefusal g l st =
 -- what is asked of the bytes alone: the length, and that the state at the places gives them again
 unfoldable pub bytesRefusal : List ℕ → ℕ
 bytesRefusal l = cond (eqb (length l) stateLength) (cond (sameBytes (imageOf (stateAt l)) l) 0 21) 20
+
+-- of an earlier image: its length, and that the state at its places gives the bytes that it grows to. A byte past its end reads as 0, so
+-- that nothing waits.
+unfoldable pub earlierRefusal : List ℕ → ℕ
+earlierRefusal e = cond (eqb (length e) earlierLength) (cond (sameBytes (imageOf (stateAt e)) (grownOf e)) 0 21) 20
 
 pub record StateRead : Type 0 where
   pub refusal : ℕ

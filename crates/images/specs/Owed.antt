@@ -5,7 +5,7 @@ use mathlib.Core.Path.{_≡_}
 use mathlib.Core.Bool.{true}
 use mathlib.Core.List.{List}
 use lib.Dec.{T}
-use lib.ListN.{getD}
+use lib.ListN.{getD, take}
 use Rattle.places.specs.Places.{unused}
 use Rattle.types.specs.declared.settings.Given.{Given}
 use Rattle.types.specs.declared.settings.Settings.{Settings}
@@ -13,14 +13,15 @@ use Rattle.types.specs.declared.settings.Opening.the-variants as opening
 use Rattle.types.specs.declared.machine.State.{State}
 use Rattle.types.specs.declared.machine.Input.{Input}
 use Rattle.settings.specs.Held.{Held}
-use Rattle.outline.specs.Settings.{openOf}
+use Rattle.outline.specs.Settings.{settingsOf, openOf}
+use Rattle.outline.specs.Setpoints.{noneWaiting}
 use Rattle.outline.specs.Run.{History, runOf, runFrom}
 use Rattle.outline.specs.Ranges.{Balanced, StateRange}
 use Rattle.outline.specs.StaysTrue.{Keeps}
-use Rattle.images.specs.StateImage.{stateRows, imageOf}
+use Rattle.images.specs.StateImage.{earlierLength, stateRows, imageOf, stateAt, grownOf}
 use Rattle.images.specs.GivenImage.{GivenRead, givenRows, givenImage, givenIn}
 use Rattle.images.specs.Possible.{possible}
-use Rattle.images.specs.Images.{StateRead, stateIn}
+use Rattle.images.specs.Images.{earlierRefusal, StateRead, stateIn}
 
 -- read, and not refused
 abbrev pub good : State → StateRead
@@ -77,3 +78,24 @@ pub record Goes (g : Given) (s : Settings) (st : State) : Type 0 where
 abbrev pub FromImages : Type 0
 FromImages = (g : Given) (s : Settings) → openOf g ≡ opening.Accepted s → (l : List ℕ) → stateIn g l .refusal ≡ 0 → (is : List Input)
     → Goes g s (runFrom s (stateIn g l .state) is)
+
+-- ---- A5: "The image carries both, and an old image opens with none waiting."
+-- an earlier image that is not refused grows to the image of its state, in which nothing waits
+pub record Grown (g : Given) (e : List ℕ) : Type 0 where
+  pub image : stateIn g (grownOf e) ≡ good (stateAt e)
+  pub none : stateAt e .waiting ≡ noneWaiting
+
+abbrev pub Grows : Type 0
+Grows = (g : Given) (e : List ℕ) → earlierRefusal e ≡ 0 → possible (settingsOf g) (stateAt e) ≡ true → Grown g e
+
+-- and no image that an earlier program wrote is refused: a possible state in which nothing waits has an earlier image, that of today less
+-- the bytes that it lacked
+pub record Earlier (st : State) : Type 0 where
+  pub refusal : earlierRefusal (take earlierLength (imageOf st)) ≡ 0
+  pub state : stateAt (take earlierLength (imageOf st)) ≡ st
+  pub grown : grownOf (take earlierLength (imageOf st)) ≡ imageOf st
+
+abbrev pub EarlierRead : Type 0
+EarlierRead =
+    (g : Given) (s : Settings) → openOf g ≡ opening.Accepted s → (st : State) → possible s st ≡ true → st .waiting ≡ noneWaiting
+    → Earlier st

@@ -24,6 +24,8 @@ use Rattle.outline.specs.Limits.{rawLimit, riseLimit, dayTicks, totalLimit, bat
 use Rattle.outline.specs.Numbers.{stageNumber, errorNumber, judgementNumber}
 use Rattle.outline.specs.Setpoints.{setpointsFit, noLargeFlow}
 use Rattle.outline.specs.Zero.{trackingOn}
+use Rattle.outline.specs.Kinds.{isWrite}
+use Rattle.outline.specs.Ranges.{writeFits}
 use Rattle.images.specs.StateImage.{stageTimer, backTag, backWeight}
 
 -- ---- the day book
@@ -112,23 +114,23 @@ flowPossible m p n =
     && (not (eqb n 6 || eqb n 7) || not (eqb (p .preliminary) 0))
 
 -- where the last tick was good, there has been a good one; a batch or a discharge goes on after a good tick alone; the tracking counter
--- is 0 but in stage 00 after a good tick
-unfoldable pub togetherFits : Mode → Setpoints → ℕ → Bool → Bool → ℕ → Bool
-togetherFits m p n good begun counter =
-    (not good || begun) && (eqb n 0 || good) && ((eqb n 0 && good) || eqb counter 0) && flowPossible m p n
+-- is 0 but in stage 00 after a good tick; setpoints wait outside 00 alone
+unfoldable pub togetherFits : Mode → Setpoints → ℕ → Bool → Bool → ℕ → Bool → Bool
+togetherFits m p n good begun counter waits =
+    (not good || begun) && (eqb n 0 || good) && ((eqb n 0 && good) || eqb counter 0) && (not (eqb n 0) || not waits) && flowPossible m p n
 
 abbrev pub togetherPossible : Settings → State → Bool
 togetherPossible s st =
     togetherFits (s .batching .mode) (st .setpoints) (stageNumber (st .sequence .stage)) (st .stability .good) (st .book .begun)
-    (st .weighing .counter)
+    (st .weighing .counter) (isWrite (st .waiting .write))
 
--- what is left to ask after the day book, the totals, and zero and tare: the other parts, and how all go together
-unfoldable pub restPossible : Settings → Stability → Setpoints → Sequence → Bool → ℕ → Bool
-restPossible s q p x begun counter =
+-- what is left to ask after the day book, the totals, zero and tare, and what waits: the other parts, and how all go together
+unfoldable pub restPossible : Settings → Stability → Setpoints → Sequence → Bool → ℕ → Bool → Bool
+restPossible s q p x begun counter waits =
     stabilityPossible (s .steadiness) q
     && setpointsFit (s .batching .mode) p
     && sequencePossible (s .batching) x
-    && togetherFits (s .batching .mode) p (stageNumber (x .stage)) (q .good) begun counter
+    && togetherFits (s .batching .mode) p (stageNumber (x .stage)) (q .good) begun counter waits
 
 -- ---- the whole
 unfoldable pub possible : Settings → State → Bool
@@ -139,4 +141,5 @@ possible s st =
     && setpointsFit (s .batching .mode) (st .setpoints)
     && sequencePossible (s .batching) (st .sequence)
     && totalsPossible (st .totals)
+    && writeFits (s .batching .mode) (st .waiting .write)
     && togetherPossible s st

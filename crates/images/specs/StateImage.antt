@@ -1,10 +1,10 @@
--- The state image: 256 bytes, as docs/IMAGES.md has them. Each part of the state has a table of rows, a place and a count of bytes for each
+-- The state image: 288 bytes, as docs/IMAGES.md has them. Each part of the state has a table of rows, a place and a count of bytes for each
 -- field; beside it stand the numbers that the part has for its rows, and the part that numbers make. A byte that no row has is 0.
-use Prim.Native.Nat.{ℕ}
+use Prim.Native.Nat.{ℕ, _-_}
 use mathlib.Core.List.{List, [], _∷_, _++_}
 use mathlib.Core.Bool.{cond}
 use lib.Dec.{eqb}
-use lib.ListN.{getD, replicate}
+use lib.ListN.{getD, drop, replicate}
 use mir.Syntax.{w32, w64}
 use Rattle.places.specs.Places.{Place, row, getAll, putAll, signed, coded, flagOf, flagTag}
 use Rattle.types.specs.declared.daybook.Book.{Book}
@@ -14,6 +14,9 @@ use Rattle.types.specs.declared.weight.Display.{Display}
 use Rattle.types.specs.declared.weight.Display.the-variants as display
 use Rattle.types.specs.declared.weight.Panel.{Panel}
 use Rattle.types.specs.declared.stages.Setpoints.{Setpoints}
+use Rattle.types.specs.declared.stages.Write.{Write}
+use Rattle.types.specs.declared.stages.Write.the-variants as write
+use Rattle.types.specs.declared.stages.Waiting.{Waiting}
 use Rattle.types.specs.declared.stages.Stage.{Stage}
 use Rattle.types.specs.declared.stages.Stage.the-variants as stage
 use Rattle.types.specs.declared.stages.SequenceError.{SequenceError}
@@ -25,11 +28,19 @@ use Rattle.types.specs.declared.stages.Batch.{Batch}
 use Rattle.types.specs.declared.stages.Batch.the-variants as batch
 use Rattle.types.specs.declared.stages.Totals.{Totals}
 use Rattle.types.specs.declared.machine.State.{State}
+use Rattle.outline.specs.Setpoints.{openSetpoints, writtenElse}
 use Rattle.outline.specs.Numbers.{stageNumber, errorNumber, judgementNumber}
 
--- the bytes of a state image
+-- the bytes of a state image, and of one before A5, which has the rows from 0 to 119 alone
 abbrev pub stateLength : ℕ
-stateLength = 256
+stateLength = 288
+
+abbrev pub earlierLength : ℕ
+earlierLength = 256
+
+-- A5: "an old image opens with none waiting": its bytes, and 0 from its end on
+unfoldable pub grownOf : List ℕ → List ℕ
+grownOf e = e ++ replicate (stateLength - earlierLength) 0
 
 -- ---- what has a name, as a number and back. A number that names nothing reads as the first name; written again it gives another byte.
 unfoldable pub displayNumber : Display → ℕ
@@ -97,6 +108,17 @@ backWeight (batch.Weight v) = v
 unfoldable pub backOf : ℕ → ℕ → Batch
 backOf n v = cond (eqb n 1) (batch.Weight v) batch.Nothing
 
+-- whether setpoints are written, and which, all 0 where there are none (D113)
+unfoldable pub writeTag : Write → ℕ
+writeTag write.Nothing = 0
+writeTag (write.Points p) = 1
+
+unfoldable pub writePoints : Write → Setpoints
+writePoints w = writtenElse w openSetpoints
+
+unfoldable pub writeOf : ℕ → Setpoints → Write
+writeOf n p = cond (eqb n 1) (write.Points p) write.Nothing
+
 -- ---- the day book: opening, last, refilled, used, unbooked, ticks, begun, contact
 abbrev pub bookRows : List Place
 bookRows = row 0 4 ∷ row 4 4 ∷ row 8 8 ∷ row 16 8 ∷ row 24 8 ∷ row 32 4 ∷ row 36 1 ∷ row 37 1 ∷ []
@@ -153,7 +175,7 @@ panelNumbers p = displayNumber (p .display) ∷ []
 abbrev pub panelOf : List ℕ → Panel
 panelOf ns = record { display = displayOf (getD ns 0 0) }
 
--- ---- setpoints: F, FF, P, OP, over, under, near zero
+-- ---- setpoints in use: F, FF, P, OP, over, under, near zero
 abbrev pub setpointRows : List Place
 setpointRows = row 60 4 ∷ row 64 4 ∷ row 68 4 ∷ row 72 4 ∷ row 76 4 ∷ row 80 4 ∷ row 84 4 ∷ []
 
@@ -196,14 +218,24 @@ totalsNumbers t = t .total ∷ t .count ∷ backTag (t .back) ∷ backWeight (t 
 abbrev pub totalsOf : List ℕ → Totals
 totalsOf ns = record { total = getD ns 0 0; count = getD ns 1 0; back = backOf (getD ns 2 0) (getD ns 3 0) }
 
+-- ---- A5: whether setpoints are waiting; F, FF, P, OP, over, under, near zero
+abbrev pub waitingRows : List Place
+waitingRows = row 256 1 ∷ row 260 4 ∷ row 264 4 ∷ row 268 4 ∷ row 272 4 ∷ row 276 4 ∷ row 280 4 ∷ row 284 4 ∷ []
+
+abbrev pub waitingNumbers : Waiting → List ℕ
+waitingNumbers w = writeTag (w .write) ∷ setpointNumbers (writePoints (w .write))
+
+abbrev pub waitingOf : List ℕ → Waiting
+waitingOf ns = record { write = writeOf (getD ns 0 0) (setpointsOf (drop 1 ns)) }
+
 -- ---- the whole
 abbrev pub stateRows : List Place
-stateRows = bookRows ++ stabilityRows ++ weighingRows ++ panelRows ++ setpointRows ++ sequenceRows ++ totalsRows
+stateRows = bookRows ++ stabilityRows ++ weighingRows ++ panelRows ++ setpointRows ++ sequenceRows ++ totalsRows ++ waitingRows
 
 abbrev pub stateNumbers : State → List ℕ
 stateNumbers st =
     bookNumbers (st .book) ++ stabilityNumbers (st .stability) ++ weighingNumbers (st .weighing) ++ panelNumbers (st .panel)
-    ++ setpointNumbers (st .setpoints) ++ sequenceNumbers (st .sequence) ++ totalsNumbers (st .totals)
+    ++ setpointNumbers (st .setpoints) ++ sequenceNumbers (st .sequence) ++ totalsNumbers (st .totals) ++ waitingNumbers (st .waiting)
 
 -- "fixed places, big-endian, unused bytes 0"
 unfoldable pub putState : State → List ℕ → List ℕ
@@ -222,4 +254,5 @@ stateAt l = record {
   setpoints = setpointsOf (getAll setpointRows l);
   sequence = sequenceOf (getAll sequenceRows l);
   totals = totalsOf (getAll totalsRows l);
+  waiting = waitingOf (getAll waitingRows l);
 }

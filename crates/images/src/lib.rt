@@ -1,7 +1,8 @@
-// Images: a state in 256 bytes and settings in 128, as docs/IMAGES.md fixes them. The parts of a state are read and written in their
+// Images: a state in 288 bytes and settings in 128, as docs/IMAGES.md fixes them. The parts of a state are read and written in their
 // places; an image is judged by its bytes and by its ranges. Nothing is kept here.
 ghost use Rattle.images.specs.Figures.{Imaged, Judged};
 ghost use Rattle.images.specs.Owed.{ReadBack, OneImage, UnusedZero, GivenBack, OneGiven, UnusedGiven, Decides, RunsPass, FromImages};
+ghost use Rattle.images.specs.Owed.{Grows, EarlierRead};
 
 pub mod given;
 mod names;
@@ -23,4 +24,6 @@ pub fn every_image()
     ensures decides { λ r. ⌜ Decides ⌝ }
     ensures runs_pass { λ r. ⌜ RunsPass ⌝ }
     ensures from_images { λ r. ⌜ FromImages ⌝ }
+    ensures grows { λ r. ⌜ Grows ⌝ }
+    ensures earlier_read { λ r. ⌜ EarlierRead ⌝ }
 {}

@@ -2,11 +2,13 @@
 // `state::bytes_refusal` finds it out: the name's own number is another.
 ghost use mathlib.Core.Path.{_≡_};
 ghost use Rattle.images.specs.StateImage.{displayNumber, displayOf, stageOf, stageTimer, errorOf, judgementOf, backTag, backWeight};
-ghost use Rattle.images.specs.StateImage.{backOf};
+ghost use Rattle.images.specs.StateImage.{backOf, writeOf};
 use types::stages::Batch;
 use types::stages::Judgement;
 use types::stages::SequenceError;
+use types::stages::Setpoints;
 use types::stages::Stage;
+use types::stages::Write;
 use types::weight::Display;
 
 pub(crate) fn display_number(d: Display) -> u8
@@ -122,4 +124,13 @@ pub(crate) fn back_of(n: u8, weight: u64) -> Batch
         return Batch::Weight(weight);
     }
     Batch::Nothing
+}
+
+pub(crate) fn write_of(n: u8, p: Setpoints) -> Write
+    ensures { λ r. ⌜ r ≡ writeOf n p ⌝ }
+{
+    if n == 1 {
+        return Write::Points(p);
+    }
+    Write::Nothing
 }

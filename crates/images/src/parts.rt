@@ -1,13 +1,14 @@
 // The parts of a state at their places in its image: read, whatever the bytes are, and written. The tables are those of
-// specs/StateImage.antt. Each asks for the length before its first byte, so that the compiler reads a number in one piece; a buffer of
-// another length holds no state: it reads as the opening's, and stays.
+// specs/StateImage.antt. Each asks for the length before its first byte, so that the compiler reads a number in one piece. An earlier image
+// is read too; a shorter buffer holds no state and reads as the opening's. Only a buffer of the present length is written.
 ghost use mathlib.Core.Path.{_≡_};
 ghost use Rattle.images.specs.StateImage.{stateLength, stateAt, bookRows, bookNumbers, stabilityRows, stabilityNumbers};
 ghost use Rattle.images.specs.StateImage.{weighingRows, weighingNumbers, panelRows, panelNumbers, setpointRows, setpointNumbers};
-ghost use Rattle.images.specs.StateImage.{sequenceRows, sequenceNumbers, totalsRows, totalsNumbers};
-ghost use Rattle.images.specs.Buffers.{bytesOf, putPart};
+ghost use Rattle.images.specs.StateImage.{sequenceRows, sequenceNumbers, totalsRows, totalsNumbers, waitingRows, waitingNumbers};
+ghost use Rattle.images.specs.Buffers.{bytesOf, bytesFrom, putPart};
 ghost use Rattle.types.specs.declared.machine.State.{State};
-ghost use Rattle.outline.specs.Parts.{withBook, withStability, withWeighing, withSetpoints, withSequence, withTotals};
+ghost use Rattle.outline.specs.Setpoints.{noneWaiting, waitingFor};
+ghost use Rattle.outline.specs.Parts.{withBook, withStability, withWeighing, withSetpoints, withWaiting, withSequence, withTotals};
 ghost use Rattle.images.specs.Holds.{Turns, withPanel};
 use crate::names::back_of;
 use crate::names::back_tag;
@@ -18,6 +19,7 @@ use crate::names::error_of;
 use crate::names::judgement_of;
 use crate::names::stage_of;
 use crate::names::stage_timer;
+use crate::names::write_of;
 use numbers::error_number;
 use numbers::judgement_number;
 use numbers::stage_number;
@@ -29,18 +31,23 @@ use types::stages::SequenceError;
 use types::stages::Setpoints;
 use types::stages::Stage;
 use types::stages::Totals;
+use types::stages::Waiting;
+use types::stages::Write;
 use types::weight::Display;
 use types::weight::Panel;
 use types::weight::Stability;
 use types::weight::Weighing;
 
 // The bytes of a state image.
-pub(crate) const STATE_LENGTH: usize = 256;
+pub(crate) const STATE_LENGTH: usize = 288;
+
+// Those of one before request A5.
+pub(crate) const EARLIER_LENGTH: usize = 256;
 
 pub fn book_at(s: &[u8]) -> Book
-    ensures { λ r. ⌜ r ≡ stateAt (bytesOf stateLength (now (s .entry))) .book ⌝ }
+    ensures { λ r. ⌜ r ≡ stateAt (bytesFrom (now (s .entry))) .book ⌝ }
 {
-    if s.len() != STATE_LENGTH {
+    if s.len() < EARLIER_LENGTH {
         return Book {
             opening: 0,
             last: 0,
@@ -90,9 +97,9 @@ pub fn put_book(s: &mut [u8], b: Book)
 }
 
 pub fn stability_at(s: &[u8]) -> Stability
-    ensures { λ r. ⌜ r ≡ stateAt (bytesOf stateLength (now (s .entry))) .stability ⌝ }
+    ensures { λ r. ⌜ r ≡ stateAt (bytesFrom (now (s .entry))) .stability ⌝ }
 {
-    if s.len() != STATE_LENGTH {
+    if s.len() < EARLIER_LENGTH {
         return Stability {
             good: false,
             run: 0,
@@ -115,9 +122,9 @@ pub fn put_stability(s: &mut [u8], q: Stability)
 }
 
 pub fn weighing_at(s: &[u8]) -> Weighing
-    ensures { λ r. ⌜ r ≡ stateAt (bytesOf stateLength (now (s .entry))) .weighing ⌝ }
+    ensures { λ r. ⌜ r ≡ stateAt (bytesFrom (now (s .entry))) .weighing ⌝ }
 {
-    if s.len() != STATE_LENGTH {
+    if s.len() < EARLIER_LENGTH {
         return Weighing {
             zero: 0,
             tracked: 0,
@@ -151,9 +158,9 @@ pub fn put_weighing(s: &mut [u8], w: Weighing)
 }
 
 pub fn panel_at(s: &[u8]) -> Panel
-    ensures { λ r. ⌜ r ≡ stateAt (bytesOf stateLength (now (s .entry))) .panel ⌝ }
+    ensures { λ r. ⌜ r ≡ stateAt (bytesFrom (now (s .entry))) .panel ⌝ }
 {
-    if s.len() != STATE_LENGTH {
+    if s.len() < EARLIER_LENGTH {
         return Panel {
             display: Display::Gross,
         };
@@ -174,9 +181,9 @@ pub fn put_panel(s: &mut [u8], p: Panel)
 }
 
 pub fn setpoints_at(s: &[u8]) -> Setpoints
-    ensures { λ r. ⌜ r ≡ stateAt (bytesOf stateLength (now (s .entry))) .setpoints ⌝ }
+    ensures { λ r. ⌜ r ≡ stateAt (bytesFrom (now (s .entry))) .setpoints ⌝ }
 {
-    if s.len() != STATE_LENGTH {
+    if s.len() < EARLIER_LENGTH {
         return Setpoints {
             target: 0,
             fall: 0,
@@ -222,9 +229,9 @@ pub fn put_setpoints(s: &mut [u8], p: Setpoints)
 }
 
 pub fn sequence_at(s: &[u8]) -> Sequence
-    ensures { λ r. ⌜ r ≡ stateAt (bytesOf stateLength (now (s .entry))) .sequence ⌝ }
+    ensures { λ r. ⌜ r ≡ stateAt (bytesFrom (now (s .entry))) .sequence ⌝ }
 {
-    if s.len() != STATE_LENGTH {
+    if s.len() < EARLIER_LENGTH {
         return Sequence {
             stage: Stage::Idle,
             clock: 0,
@@ -262,9 +269,9 @@ pub fn put_sequence(s: &mut [u8], q: Sequence)
 }
 
 pub fn totals_at(s: &[u8]) -> Totals
-    ensures { λ r. ⌜ r ≡ stateAt (bytesOf stateLength (now (s .entry))) .totals ⌝ }
+    ensures { λ r. ⌜ r ≡ stateAt (bytesFrom (now (s .entry))) .totals ⌝ }
 {
-    if s.len() != STATE_LENGTH {
+    if s.len() < EARLIER_LENGTH {
         return Totals {
             total: 0,
             count: 0,
@@ -289,4 +296,69 @@ pub fn put_totals(s: &mut [u8], t: Totals)
     places::put_u32(s, 104, t.count);
     places::put_u8(s, 108, back_tag(back));
     places::put_u64(s, 112, back_weight(back));
+}
+
+// The waiting setpoints stand past the end of an earlier image: none are waiting in it.
+pub fn waiting_at(s: &[u8]) -> Waiting
+    ensures { λ r. ⌜ r ≡ stateAt (bytesOf stateLength (now (s .entry))) .waiting ⌝ }
+{
+    if s.len() != STATE_LENGTH {
+        return Waiting {
+            write: Write::Nothing,
+        };
+    }
+    let target = places::u32_at(s, 260);
+    let fall = places::u32_at(s, 264);
+    let preliminary = places::u32_at(s, 268);
+    let optional = places::u32_at(s, 272);
+    let over = places::u32_at(s, 276);
+    let under = places::u32_at(s, 280);
+    let near = places::u32_at(s, 284);
+    let points = Setpoints {
+        target,
+        fall,
+        preliminary,
+        optional,
+        over,
+        under,
+        near,
+    };
+    let write = write_of(places::u8_at(s, 256), points);
+    Waiting { write }
+}
+
+// These setpoints wait.
+pub fn put_waiting(s: &mut [u8], p: Setpoints)
+    ensures state { λ _. ⌜ Turns (now (s .entry)) (now (s .exit)) (λ (st : State). withWaiting st (waitingFor p)) ⌝ }
+    ensures bytes { λ _. ⌜ now (s .exit) ≡ putPart waitingRows (waitingNumbers (waitingFor p)) (now (s .entry)) ⌝ }
+{
+    if s.len() != STATE_LENGTH {
+        return;
+    }
+    places::put_u8(s, 256, 1);
+    places::put_u32(s, 260, p.target);
+    places::put_u32(s, 264, p.fall);
+    places::put_u32(s, 268, p.preliminary);
+    places::put_u32(s, 272, p.optional);
+    places::put_u32(s, 276, p.over);
+    places::put_u32(s, 280, p.under);
+    places::put_u32(s, 284, p.near);
+}
+
+// Nothing waits any more.
+pub fn clear_waiting(s: &mut [u8])
+    ensures state { λ _. ⌜ Turns (now (s .entry)) (now (s .exit)) (λ (st : State). withWaiting st noneWaiting) ⌝ }
+    ensures bytes { λ _. ⌜ now (s .exit) ≡ putPart waitingRows (waitingNumbers noneWaiting) (now (s .entry)) ⌝ }
+{
+    if s.len() != STATE_LENGTH {
+        return;
+    }
+    places::put_u8(s, 256, 0);
+    places::put_u32(s, 260, 0);
+    places::put_u32(s, 264, 0);
+    places::put_u32(s, 268, 0);
+    places::put_u32(s, 272, 0);
+    places::put_u32(s, 276, 0);
+    places::put_u32(s, 280, 0);
+    places::put_u32(s, 284, 0);
 }

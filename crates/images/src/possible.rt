@@ -12,18 +12,22 @@ ghost use Rattle.outline.specs.Settings.{settingsOf};
 ghost use Rattle.images.specs.Possible.{blankBook, bookPossible, stabilityPossible, weighingPossible, timeOf, clockLimit};
 ghost use Rattle.images.specs.Possible.{sequenceFits, totalsPossible, flowPossible, togetherFits, restPossible};
 ghost use Rattle.images.specs.GivenImage.{givenAt};
-ghost use Rattle.images.specs.Buffers.{possibleIn};
+ghost use Rattle.images.specs.Buffers.{isImage, possibleIn};
+ghost use Rattle.outline.specs.Kinds.{isWrite};
+ghost use Rattle.outline.specs.Ranges.{writeFits};
 ghost use Rattle.outline.specs.Zero.{trackingOn};
 use crate::given::GIVEN_LENGTH;
 use crate::names::back_tag;
 use crate::names::back_weight;
 use crate::names::stage_timer;
+use crate::parts::EARLIER_LENGTH;
 use crate::parts::STATE_LENGTH;
 use crate::parts::book_at;
 use crate::parts::sequence_at;
 use crate::parts::setpoints_at;
 use crate::parts::stability_at;
 use crate::parts::totals_at;
+use crate::parts::waiting_at;
 use crate::parts::weighing_at;
 use numbers::error_number;
 use numbers::judgement_number;
@@ -36,6 +40,7 @@ use types::settings::Mode;
 use types::stages::Sequence;
 use types::stages::Setpoints;
 use types::stages::Totals;
+use types::stages::Write;
 use types::weight::Stability;
 use types::weight::Weighing;
 use whole::magnitude;
@@ -273,10 +278,22 @@ fn flow_fits(m: Mode, p: Setpoints, n: u8) -> bool
         & (!((n == 6) | (n == 7)) | (preliminary != 0))
 }
 
-fn is_together(m: Mode, p: Setpoints, n: u8, good: bool, begun: bool, counter: u16) -> bool
-    ensures { λ r. ⌜ r ≡ togetherFits m p n good begun counter ⌝ }
+fn is_together(
+    m: Mode,
+    p: Setpoints,
+    n: u8,
+    good: bool,
+    begun: bool,
+    counter: u16,
+    waits: bool,
+) -> bool
+    ensures { λ r. ⌜ r ≡ togetherFits m p n good begun counter waits ⌝ }
 {
-    (!good | begun) & ((n == 0) | good) & (((n == 0) & good) | (counter == 0)) & flow_fits(m, p, n)
+    (!good | begun)
+        & ((n == 0) | good)
+        & (((n == 0) & good) | (counter == 0))
+        & ((n != 0) | !waits)
+        & flow_fits(m, p, n)
 }
 
 fn given_mode(g: &[u8]) -> Mode
@@ -285,9 +302,37 @@ fn given_mode(g: &[u8]) -> Mode
     mode_of(places::i32_at(g, MODE))
 }
 
-// What is left to ask after the day book, the totals, and zero and tare: the other parts, and how all go together.
-fn is_rest(g: &[u8], q: Stability, p: Setpoints, x: Sequence, begun: bool, counter: u16) -> bool
-    ensures { λ r. ⌜ r ≡ restPossible (settingsOf (givenAt (now (g .entry)))) q p x begun counter ⌝ }
+// There are setpoints in it.
+fn has_points(w: Write) -> bool
+    ensures { λ r. ⌜ r ≡ isWrite w ⌝ }
+{
+    match w {
+        Write::Nothing => false,
+        Write::Points(_) => true,
+    }
+}
+
+// What waits keeps the rules of 6.
+fn write_fits(g: &[u8], w: Write) -> bool
+    ensures { λ r. ⌜ r ≡ writeFits (settingsOf (givenAt (now (g .entry))) .batching .mode) w ⌝ }
+{
+    match w {
+        Write::Nothing => return true,
+        Write::Points(p) => return setpoints_fit(given_mode(g), p),
+    }
+}
+
+// What is left to ask after the day book, the totals, zero and tare, and what waits: the other parts, and how all go together.
+fn is_rest(
+    g: &[u8],
+    q: Stability,
+    p: Setpoints,
+    x: Sequence,
+    begun: bool,
+    counter: u16,
+    waits: bool,
+) -> bool
+    ensures { λ r. ⌜ r ≡ restPossible (settingsOf (givenAt (now (g .entry)))) q p x begun counter waits ⌝ }
 {
     let mode = given_mode(g);
     let stage = x.stage;
@@ -300,17 +345,25 @@ fn is_rest(g: &[u8], q: Stability, p: Setpoints, x: Sequence, begun: bool, count
     is_stability(g, q)
         & setpoints_fit(mode, p)
         & is_sequence(g, n, t, x.clock, e, j)
-        & is_together(mode, p, n, q.good, begun, counter)
+        & is_together(mode, p, n, q.good, begun, counter, waits)
 }
 
-// Whether the state in the image s can be under the settings in the image g: part by part, so that few parts are at hand at once.
+// The length of a state image, or of an earlier one.
+fn is_image(n: usize) -> bool
+    ensures { λ r. ⌜ r ≡ isImage n ⌝ }
+{
+    (n == STATE_LENGTH) | (n == EARLIER_LENGTH)
+}
+
+// Whether the state in the image s, or in an earlier one, can be under the settings in the image g: part by part, so that few parts are at
+// hand at once.
 pub fn is_possible(g: &[u8], s: &[u8]) -> bool
     ensures { λ r. ⌜ r ≡ possibleIn (now (g .entry)) (now (s .entry)) ⌝ }
 {
     if g.len() != GIVEN_LENGTH {
         return false;
     }
-    if s.len() != STATE_LENGTH {
+    if !is_image(s.len()) {
         return false;
     }
     let book = book_at(s);
@@ -325,6 +378,12 @@ pub fn is_possible(g: &[u8], s: &[u8]) -> bool
     if !is_weighing(g, weighing) {
         return false;
     }
+    let waiting = waiting_at(s);
+    let write = waiting.write;
+    if !write_fits(g, write) {
+        return false;
+    }
+    let waits = has_points(write);
     let stability = stability_at(s);
     let setpoints = setpoints_at(s);
     let sequence = sequence_at(s);
@@ -335,5 +394,6 @@ pub fn is_possible(g: &[u8], s: &[u8]) -> bool
         sequence,
         book.begun,
         weighing.counter,
+        waits,
     )
 }

@@ -2,12 +2,16 @@
 ghost use mathlib.Core.Path.{_≡_};
 ghost use lib.Dec.{leb};
 ghost use Rattle.places.specs.Places.{sameBytes, getAll, gaps, zerosIn};
-ghost use Rattle.images.specs.StateImage.{stateLength, stateRows, stateNumbers, stateAt};
-ghost use Rattle.images.specs.Images.{bytesRefusal};
+ghost use Rattle.images.specs.StateImage.{stateLength, stateRows, stateNumbers, imageOf, stateAt};
+ghost use lib.ListN.{length};
+ghost use mathlib.Core.Bool.{true};
+ghost use Rattle.images.specs.Buffers.{isImage, filled};
+ghost use Rattle.images.specs.Images.{bytesRefusal, earlierRefusal};
 use crate::names::back_tag;
 use crate::names::back_weight;
 use crate::names::stage_timer;
 use crate::parts;
+use crate::parts::EARLIER_LENGTH;
 use crate::parts::STATE_LENGTH;
 use numbers::error_number;
 use numbers::judgement_number;
@@ -43,6 +47,8 @@ fn is_read_whole(s: &[u8], q: Sequence, t: Totals) -> bool
         & (judgement_number(judgement) == places::u8_at(s, 95))
         & (back_tag(back) == places::u8_at(s, 108))
         & (back_weight(back) == places::u64_at(s, 112))
+        & is_flag(places::u8_at(s, 256))
+        & ((places::u8_at(s, 256) == 1) | places::are_zero(s, 260, 28))
 }
 
 // The bytes that stand in no place are 0.
@@ -55,24 +61,50 @@ fn is_unused_zero(s: &[u8]) -> bool
         & places::are_zero(s, 89, 1)
         & places::are_zero(s, 109, 3)
         & places::are_zero(s, 120, 136)
+        & places::are_zero(s, 257, 3)
 }
 
-// What a state image is refused with for its bytes, or 0: 20 wrong length, 21 bytes that its state, written again, would not give. The
-// definition compares a second image; here the bytes themselves are asked, which comes to the same (places/Again). Whether the state is
-// possible is asked by possible::is_possible.
+// Whether the bytes are those that their state, written again, would give. The definition compares a second image; here the bytes
+// themselves are asked, which comes to the same (places/Again). A byte past the end of an earlier image reads as 0.
+fn is_written(s: &[u8]) -> bool
+    requires { ⌜ isImage (length (now s)) ≡ true ⌝ }
+    ensures { λ r. ⌜ r ≡ sameBytes (imageOf (stateAt (now (s .entry)))) (filled (now (s .entry))) ⌝ }
+{
+    // It is never shorter; the compiler then knows that the places up to there need no test of their own.
+    if s.len() < EARLIER_LENGTH {
+        return false;
+    }
+    let sequence = parts::sequence_at(s);
+    let totals = parts::totals_at(s);
+    if !is_read_whole(s, sequence, totals) {
+        return false;
+    }
+    is_unused_zero(s)
+}
+
+// What a state image is refused with for its bytes, or 0: 20 wrong length, 21 bytes that its state, written again, would not give. Whether
+// the state is possible is asked by possible::is_possible.
 pub fn bytes_refusal(s: &[u8]) -> u8
     ensures { λ r. ⌜ r ≡ bytesRefusal (now (s .entry)) ⌝ }
 {
     if s.len() != STATE_LENGTH {
         return 20;
     }
-    let sequence = parts::sequence_at(s);
-    let totals = parts::totals_at(s);
-    if !is_read_whole(s, sequence, totals) {
-        return 21;
+    if is_written(s) {
+        return 0;
     }
-    if !is_unused_zero(s) {
-        return 21;
+    21
+}
+
+// The same of an earlier image, which has bytes of 0 in place of those it lacks.
+pub fn earlier_refusal(e: &[u8]) -> u8
+    ensures { λ r. ⌜ r ≡ earlierRefusal (now (e .entry)) ⌝ }
+{
+    if e.len() != EARLIER_LENGTH {
+        return 20;
     }
-    0
+    if is_written(e) {
+        return 0;
+    }
+    21
 }

@@ -28,6 +28,7 @@ pub mod WeightFigures
 pub mod OutputFigures
 pub mod DischargeFigures
 pub mod RefillFigures
+pub mod WaitingFigures
 -- what stays true: the book, requests
 pub mod BookStep
 pub mod DaySums
@@ -43,11 +44,10 @@ pub mod TotalRun
 pub mod QuietStep
 pub mod GatesRun
 pub mod DischargeLaw
--- blocks, lines, setpoints read back
+-- blocks, lines, setpoints
 pub mod RunForms
 pub mod DigitsBack
 pub mod SetpointStep
-pub mod ReadBack
 -- ranges
 pub mod RangeBook
 pub mod RangeStability
@@ -58,6 +58,9 @@ pub mod RangeSequence
 pub mod RangeTotals
 pub mod RangeTogether
 pub mod RangeRun
+-- setpoints: read back, and waiting
+pub mod ReadBack
+pub mod WaitingRun
 -- every tick with a line
 pub mod LineEnds
 pub mod LineBytes

@@ -49,6 +49,7 @@ open-in s = record {
     tare-most = omega arith;
   };
   setpoints = open-fits (s .batching .mode);
+  waiting = refl;
   sequence = record {
     timer = tt;
     flow-clock = λ e. omega arith;
@@ -66,19 +67,23 @@ open-in s = record {
     resting = λ e. refl;
     unbroken = λ e. refl;
     flow = refl;
+    none-waits = λ e. refl;
   };
 }
 
 pub tick-in : (s : Settings) (st : State) (i : Input) → StateRange s st → StateRange s (nextOf s st i)
-tick-in s st i h = record {
-  book = tick-book s st i (h .book);
-  stability = tick-stability s st i;
-  weighing = tick-weighing s st i (h .weighing);
-  setpoints = tick-fits s st i (h .setpoints);
-  sequence = tick-sequence s st i (h .sequence);
-  totals = tick-totals s st i (h .totals);
-  together = tick-together s st i (h .together);
-}
+tick-in s st i h =
+    let fits = tick-fits s st i (record { used = h .setpoints; waits = h .waiting }) in
+    record {
+      book = tick-book s st i (h .book);
+      stability = tick-stability s st i;
+      weighing = tick-weighing s st i (h .weighing);
+      setpoints = fits .used;
+      waiting = fits .waits;
+      sequence = tick-sequence s st i (h .sequence);
+      totals = tick-totals s st i (h .totals);
+      together = tick-together s st i (h .together);
+    }
 
 pub run-in : (s : Settings) (h : History Input) → StateRange s (runOf s h)
 unfolding runOf

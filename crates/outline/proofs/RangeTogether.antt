@@ -19,6 +19,7 @@ use Rattle.types.specs.declared.daybook.Book.{Book}
 use Rattle.types.specs.declared.requests.Request.{Request}
 use Rattle.types.specs.declared.requests.Request.the-variants as request
 use Rattle.types.specs.declared.stages.Setpoints.{Setpoints}
+use Rattle.types.specs.declared.stages.Waiting.{Waiting}
 use Rattle.types.specs.declared.stages.Stage.{Stage}
 use Rattle.types.specs.declared.stages.Stage.the-variants.{Idle, StartDelay, LargeDisable, LargeFlow, MediumDisable, MediumFlow, SmallDisable, SmallFlow, JudgeDelay, JudgeWait, DischargeStart, Discharge, DischargeEnd}
 use Rattle.types.specs.declared.stages.Sequence.{Sequence}
@@ -33,15 +34,15 @@ use Rattle.types.specs.declared.machine.Settled.{Settled}
 use Rattle.outline.specs.Weight.{rawOf, weighOf, steadiedOf}
 use Rattle.outline.specs.DayBook.{laterGood, bookOf, closedOf}
 use Rattle.outline.specs.Zero.{trackingOn, calmOf, trackedOf}
-use Rattle.outline.specs.Setpoints.{noLargeFlow}
+use Rattle.outline.specs.Setpoints.{noneWaiting, waitingFor, noLargeFlow}
 use Rattle.outline.specs.Stages.{comparedOf, factsOf, waitOf, timed, until, afterLarge, firstFlow, afterStart, judgedOf, moveOf, idleOf, lateOf, slowOf, stopSequence, landOf, advanceOf}
 use Rattle.outline.specs.Totals.{bookable, bookedSequence}
 use Rattle.outline.specs.Requests.{idleNow, rowsTo, doneOf, rulingOf, grantedOf, decidedOf}
 use Rattle.outline.specs.Tick.{enteredOf, weightsOf, settledOf, servedOf, withTracking, finishedOf, steppedOf, endedOf, nextOf}
 use Rattle.outline.specs.Ranges.{flowFits, TogetherRange}
 use Rattle.whole.specs.Chains.{and-left, and-both}
-use Rattle.outline.proofs.Parts.{cond-in, clash, none-applies}
-use Rattle.outline.proofs.SetpointStep.{ended-setpoints}
+use Rattle.outline.proofs.Parts.{cond-same, cond-in, clash, none-applies}
+use Rattle.outline.specs.Steps.{booked-stage, step-runs}
 use Rattle.outline.proofs.RangeBook.{settled-book, ended-book}
 use Rattle.outline.proofs.RangeStability.{settled-stability, ended-stability}
 use Rattle.outline.proofs.RangeWeighing.{Counts, counts, ended-weighing}
@@ -73,7 +74,7 @@ idle-fits m p (DischargeStart t) e = refl
 idle-fits m p Discharge e = refl
 idle-fits m p (DischargeEnd t) e = refl
 
-stop-idle : (q : Sequence) → idleOf (stopSequence q .stage) ≡ true
+pub stop-idle : (q : Sequence) → idleOf (stopSequence q .stage) ≡ true
 unfolding stopSequence
 stop-idle q = cond-in (λ (r : Sequence). idleOf (r .stage) ≡ true) (idleOf (q .stage)) (λ e. e) (λ e. refl)
 
@@ -89,6 +90,7 @@ record Stands (s : Settings) (a : Settled) : Type 0 where
   begun : a .state .stability .good ≡ true → a .state .book .begun ≡ true
   held : a .held ≡ true → a .state .stability .good ≡ false → idleNow (a .state) ≡ true
   flow : flowFits (s .batching .mode) (a .state .setpoints) (a .state .sequence .stage) ≡ true
+  waits : idleNow (a .state) ≡ true → a .state .waiting ≡ noneWaiting
 
 module _ (s : Settings) (st : State) (x : Weights) where
   granted-held : (r : Request) → doneOf (rulingOf s st x r) ≡ true → grantedOf st x r .held ≡ true → x .good ≡ false → idleNow (grantedOf st x r .state) ≡ true
@@ -123,10 +125,10 @@ module _ (s : Settings) (st : State) (x : Weights) where
     granted-flow request.Tare d = h
     granted-flow request.TareClear d = h
     granted-flow request.Start d = refl
-    granted-flow request.Stop d = idle-fits (s .batching .mode) (st .setpoints) (stopSequence (st .sequence) .stage) (stop-idle (st .sequence))
+    granted-flow request.Stop d = idle-fits (s .batching .mode) _ (stopSequence (st .sequence) .stage) (stop-idle (st .sequence))
     granted-flow (request.Set p) d =
-        idle-fits (s .batching .mode) p (st .sequence .stage)
-        (not-false _ (none-applies (rowsTo (s .range) (s .batching .mode) (st .sequence) (st .totals) x (request.Set p)) d .0))
+        cond-in (λ (q : Setpoints). flowFits (s .batching .mode) q (st .sequence .stage) ≡ true) (idleNow st)
+        (λ e. idle-fits (s .batching .mode) p (st .sequence .stage) e) (λ e. h)
     granted-flow request.TotalClear d = h
     granted-flow request.Undo d = h
     granted-flow request.ShowGross d = h
@@ -143,13 +145,40 @@ module _ (s : Settings) (st : State) (x : Weights) where
         go true d = granted-flow r d
         go false d = h
 
-    settled-stands : x .good ≡ st .stability .good → (st .stability .good ≡ true → st .book .begun ≡ true) → (r : Request) → Stands s (decidedOf s st x r)
-    settled-stands g k r =
+    module _ (n : idleNow st ≡ true → st .waiting ≡ noneWaiting) where
+      granted-waits : (r : Request) → idleNow (grantedOf st x r .state) ≡ true → grantedOf st x r .state .waiting ≡ noneWaiting
+      unfolding grantedOf
+      granted-waits request.Nothing e = n e
+      granted-waits request.Zero e = n e
+      granted-waits request.Tare e = n e
+      granted-waits request.TareClear e = n e
+      granted-waits request.Start e = absurd (clash e refl)
+      granted-waits request.Stop e = cond-in (λ (w : Waiting). w ≡ noneWaiting) (not (idleNow st)) (λ k. refl) (λ k. n (not-false _ k))
+      granted-waits (request.Set p) e = rw e (n e)
+      granted-waits request.TotalClear e = n e
+      granted-waits request.Undo e = n e
+      granted-waits request.ShowGross e = n e
+      granted-waits request.ShowNet e = n e
+      granted-waits request.DayClose e = n e
+      granted-waits request.Discharge e = absurd (clash e refl)
+
+      settled-waits : (r : Request) → idleNow (decidedOf s st x r .state) ≡ true → decidedOf s st x r .state .waiting ≡ noneWaiting
+      unfolding decidedOf
+      settled-waits r = go (doneOf (rulingOf s st x r))
+        where
+          go : (t : Bool) → idleOf (cond t (grantedOf st x r .state .sequence) (st .sequence) .stage) ≡ true
+              → cond t (grantedOf st x r .state .waiting) (st .waiting) ≡ noneWaiting
+          go true = granted-waits r
+          go false = n
+
+    settled-stands : (idleNow st ≡ true → st .waiting ≡ noneWaiting) → x .good ≡ st .stability .good → (st .stability .good ≡ true → st .book .begun ≡ true) → (r : Request) → Stands s (decidedOf s st x r)
+    settled-stands n g k r =
         let same = settled-good s st x r in
         record {
           begun = λ e. settled-book (λ (b : Book). b .begun ≡ true) closed-begun s st x r (k (sym same ∙ e));
           held = λ e b. settled-held r e (g ∙ sym same ∙ b);
           flow = settled-flow r;
+          waits = settled-waits n r;
         }
 
 -- ---- step 5: the counter is 0 but in a good tick in stage 00
@@ -242,6 +271,19 @@ move-flow b p (DischargeStart t) f h = timed-leads (Fits (b .mode) p) (b .discha
 move-flow b p Discharge f h = until-leads (Fits (b .mode) p) (f .empty) Discharge (To (DischargeEnd 0)) refl refl
 move-flow b p (DischargeEnd t) f h = timed-leads (Fits (b .mode) p) (b .discharge .end) t DischargeEnd Emptied refl refl
 
+-- ---- what waits comes into use where the stage returns to 00
+step-waits : (s : Settings) (st : State) (x : Weights) → (idleNow st ≡ true → st .waiting ≡ noneWaiting)
+    → idleOf (steppedOf s st x .sequence .stage) ≡ true → steppedOf s st x .waiting ≡ noneWaiting
+unfolding steppedOf finishedOf
+step-waits s st x n e = simp (cond-same, go (idleNow st) refl)
+  where
+    a : Advanced
+    a = advanceOf (s .batching) (st .setpoints) (st .sequence) (factsOf (s .batching .mode) (st .setpoints) x)
+
+    go : (t : Bool) → idleNow st ≡ t → cond (not (idleNow st) && idleOf (a .sequence .stage)) noneWaiting (st .waiting) ≡ noneWaiting
+    go true p = rw p (n p)
+    go false p = rw (p, sym (ap idleOf (booked-stage s st x a)) ∙ e)
+
 -- ---- steps 5 and 6 together
 unfit : (m : Mode) (p : Setpoints) (x : Weights) → x .good ≡ false → factsOf m p x .unfit ≡ true
 unfolding factsOf
@@ -250,6 +292,24 @@ unfit m p x e = rw e
 is-true : (t : Bool) → (t ≡ false → ⊥) → t ≡ true
 is-true true n = refl
 is-true false n = absurd (n refl)
+
+module _ (s : Settings) (a : Settled) (x : Weights) where
+  -- 00 stays 00
+  pub rest-stays : idleNow (a .state) ≡ true → idleNow (endedOf s a x) ≡ true
+  rest-stays e =
+      ended-stage (λ (o : Stage). idleOf o ≡ true) s a x (λ k. e)
+      (advance-stage (λ (o : Stage). idleOf o ≡ true) (s .batching) (a .state .setpoints) (a .state .sequence) _ (λ k. k) refl (λ k f. absurd (clash e k)))
+
+  -- outside 00 both sets stay as step 4 leaves them
+  pub ended-runs : idleNow (endedOf s a x) ≡ false → (endedOf s a x .setpoints ≡ a .state .setpoints) × (endedOf s a x .waiting ≡ a .state .waiting)
+  unfolding endedOf withTracking
+  ended-runs = go (a .held)
+    where
+      go : (t : Bool) → let b = steppedOf s (withTracking s a x) x in
+          idleOf (cond t (a .state .sequence) (b .sequence) .stage) ≡ false
+          → (cond t (a .state .setpoints) (b .setpoints) ≡ a .state .setpoints) × (cond t (a .state .waiting) (b .waiting) ≡ a .state .waiting)
+      go true e = (refl, refl)
+      go false e = let r = step-runs s _ x e in (r .1, r .2)
 
 module _ (s : Settings) (a : Settled) (x : Weights) (g : x .good ≡ a .state .stability .good) (h : Stands s a) where
   -- a bad tick ends in stage 00
@@ -260,11 +320,6 @@ module _ (s : Settings) (a : Settled) (x : Weights) (g : x .good ≡ a .state .s
       (λ k f. absurd (clash (unfit (s .batching .mode) (a .state .setpoints) x e) f)))
 
   -- stage 00 after step 4 stays so
-  rest-stays : idleNow (a .state) ≡ true → idleNow (endedOf s a x) ≡ true
-  rest-stays e =
-      ended-stage (λ (o : Stage). idleOf o ≡ true) s a x (λ k. e)
-      (advance-stage (λ (o : Stage). idleOf o ≡ true) (s .batching) (a .state .setpoints) (a .state .sequence) _ (λ k. k) refl (λ k f. absurd (clash e k)))
-
   ended-good : endedOf s a x .stability .good ≡ x .good
   ended-good = ap (λ (q : Stability). q .good) (ended-stability s a x) ∙ sym g
 
@@ -274,13 +329,31 @@ module _ (s : Settings) (a : Settled) (x : Weights) (g : x .good ≡ a .state .s
       (advance-stage (Fits (s .batching .mode) (a .state .setpoints)) (s .batching) (a .state .setpoints) (a .state .sequence) _ (λ k. h .flow) refl
       (λ k f. move-flow (s .batching) (a .state .setpoints) (a .state .sequence .stage) _ (h .flow)))
 
+  -- in 00 every set fits
+  ended-fits : flowFits (s .batching .mode) (endedOf s a x .setpoints) (endedOf s a x .sequence .stage) ≡ true
+  ended-fits = go (idleNow (endedOf s a x)) refl
+    where
+      go : (t : Bool) → idleNow (endedOf s a x) ≡ t → flowFits (s .batching .mode) (endedOf s a x .setpoints) (endedOf s a x .sequence .stage) ≡ true
+      go true e = idle-fits (s .batching .mode) (endedOf s a x .setpoints) (endedOf s a x .sequence .stage) e
+      go false e = rw (ended-runs s a x e .0) ended-flow
+
+  ended-waits : idleNow (endedOf s a x) ≡ true → endedOf s a x .waiting ≡ noneWaiting
+  unfolding endedOf withTracking
+  ended-waits = go (a .held)
+    where
+      go : (t : Bool) → let b = steppedOf s (withTracking s a x) x in
+          idleOf (cond t (a .state .sequence) (b .sequence) .stage) ≡ true → cond t (a .state .waiting) (b .waiting) ≡ noneWaiting
+      go true e = h .waits e
+      go false e = step-waits s _ x (h .waits) e
+
   ended-together : TogetherRange s (endedOf s a x)
   ended-together = record {
     begun = λ e. rw (ended-book s a x) (h .begun (sym g ∙ sym ended-good ∙ e));
     under-way = λ e. ended-good ∙ is-true (x .good) (λ k. clash (bad-rests k) e);
-    resting = λ e. rw (ended-weighing s a x) (uncounted s _ _ x _ (λ c. clash (rest-stays (c .rests)) e));
+    resting = λ e. rw (ended-weighing s a x) (uncounted s _ _ x _ (λ c. clash (rest-stays s a x (c .rests)) e));
     unbroken = λ e. rw (ended-weighing s a x) (uncounted s _ _ x _ (λ c. clash (c .good) (sym ended-good ∙ e)));
-    flow = rw (ended-setpoints s a x) ended-flow;
+    flow = ended-fits;
+    none-waits = ended-waits;
   }
 
 -- ---- a whole tick
@@ -294,7 +367,7 @@ module _ (s : Settings) (st : State) (i : Input) where
   settled-in : TogetherRange s st → Stands s (settledOf s st i)
   unfolding settledOf enteredOf weightsOf
   settled-in h =
-      settled-stands s _ _ (h .flow) (weigh-good s (st .stability) _ (st .book .last) (st .weighing) (rawOf (s .calibration) (i .count)) (i .contact))
+      settled-stands s _ _ (h .flow) (h .none-waits) (weigh-good s (st .stability) _ (st .book .last) (st .weighing) (rawOf (s .calibration) (i .count)) (i .contact))
       (begun-in (st .book) (s .steadiness) (st .stability) (st .book .last) (rawOf (s .calibration) (i .count)) (i .contact)) (i .request)
 
   pub tick-together : TogetherRange s st → TogetherRange s (nextOf s st i)

@@ -31,10 +31,13 @@ use Rattle.outline.specs.Lines.{lineOf, kindOf, prefixLength, isPrefixed
 use Rattle.outline.specs.Replies.{requestOf}
 use Rattle.outline.specs.Replies.{framed, replyText, replyDue, pointsText, outcomeTold, toldOf, askedOf, dueText, lineTickOf}
 use Rattle.outline.specs.Run.{History, _▷_, runOf, thenAll, lineInput}
-use Rattle.outline.specs.Kinds.{requestKind}
+use Rattle.outline.specs.Kinds.{requestKind, isWrite}
+use Rattle.outline.specs.Setpoints.{noneWaiting}
+use Rattle.outline.specs.Requests.{idleNow}
 use Rattle.outline.specs.StaysTrue.{NoneSet, figuresOf, ReadBack}
 use Rattle.outline.proofs.DigitsBack.{fields-back}
-use Rattle.outline.proofs.SetpointStep.{settled-kept, tick-setpoints, tick-set}
+use Rattle.outline.proofs.SetpointStep.{readOf, settled-kept, tick-kept, tick-set}
+use Rattle.outline.proofs.RangeRun.{run-in}
 
 -- ---- SS was read: its fields are the setpoints
 set-fields : (f : Fields) (p : Setpoints) → setOf f ≡ command.Set p → f ≡ Points p
@@ -99,32 +102,33 @@ set-request c p e = rw e
 
 -- where the reply does not fit, the line is not answered so
 fitted : (s : Settings) (st : State) (p : Setpoints) (fits : Bool) (a b : LineTick) (i j : Input)
-    → (a .told ≡ told.Done → nextOf s st i .setpoints ≡ p) → (b .told ≡ told.Done → ⊥)
-    → cond fits a b .told ≡ told.Done → nextOf s st (cond fits i j) .setpoints ≡ p
+    → (a .told ≡ told.Done → readOf (nextOf s st i) ≡ p) → (b .told ≡ told.Done → ⊥)
+    → cond fits a b .told ≡ told.Done → readOf (nextOf s st (cond fits i j)) ≡ p
 fitted s st p true a b i j done never d = done d
 fitted s st p false a b i j done never d = absurd (never d)
 
-written : (s : Settings) (st : State) (count : ℤ) (contact : Bool) (receive buffer : List ℕ) (p : Setpoints) → commandOf receive (s .address) ≡ command.Set p
-    → lineTickOf s st count contact receive buffer .told ≡ told.Done → nextOf s st (lineInput s st count contact receive buffer) .setpoints ≡ p
+written : (s : Settings) (st : State) (count : ℤ) (contact : Bool) (receive buffer : List ℕ) (p : Setpoints)
+    → (idleNow st ≡ true → st .waiting ≡ noneWaiting) → commandOf receive (s .address) ≡ command.Set p
+    → lineTickOf s st count contact receive buffer .told ≡ told.Done → readOf (nextOf s st (lineInput s st count contact receive buffer)) ≡ p
 unfolding lineTickOf lineInput
-written s st count contact receive buffer p e =
+written s st count contact receive buffer p h e =
     let asked = askedOf s count contact receive in
     fitted s st p (leb (length (dueText s st count contact receive)) (length buffer)) _ _ asked (unaskedOf count contact)
-    (λ d. tick-set s st asked p (set-request _ p e) (set-told _ _ p e d)) (λ d. let z : _≡_ {A = ℕ} 0 1 = cc in omega arith)
+    (λ d. tick-set s st asked p h (set-request _ p e) (set-told _ _ p e d)) (λ d. let z : _≡_ {A = ℕ} 0 1 = cc in omega arith)
 
 -- ---- ticks that write no setpoints leave them
-kept : (s : Settings) (h : History Input) (later : List Input) → NoneSet s (runOf s h) later → runOf s (thenAll h later) .setpoints ≡ runOf s h .setpoints
+kept : (s : Settings) (h : History Input) (later : List Input) → NoneSet s (runOf s h) later → readOf (runOf s (thenAll h later)) ≡ readOf (runOf s h)
 unfolding runOf thenAll
 kept s h [] n = refl
-kept s h (i ∷ later) n = kept s (h ▷ i) later (n .1) ∙ tick-setpoints s (runOf s h) i (n .0)
+kept s h (i ∷ later) n = kept s (h ▷ i) later (n .1) ∙ tick-kept s (runOf s h) i (n .0)
 
 -- ---- RS replies with the setpoints as they are
-read-request : (c : Command) (done : Bool) → c ≡ command.Do word.ReadSetpoints → requestKind (requestOf c) .writes && done ≡ false
+read-request : (c : Command) (done : Bool) → c ≡ command.Do word.ReadSetpoints → isWrite (requestKind (requestOf c) .writes) && done ≡ false
 unfolding requestOf
 read-request c done e = rw e
 
 due : (s : Settings) (st : State) (count : ℤ) (contact : Bool) (receive : List ℕ) → commandOf receive (s .address) ≡ command.Do word.ReadSetpoints
-    → dueText s st count contact receive ≡ framed (s .address) (pointsText (st .setpoints))
+    → dueText s st count contact receive ≡ framed (s .address) (pointsText (readOf st))
 unfolding dueText replyText replyDue
 due s st count contact receive e =
     ap (λ (c : Command). replyText (s .address) (replyDue c (settledOf s st asked .state) (readingOf (servedOf s st asked)) (settledOf s st asked .outcome))) e
@@ -138,5 +142,5 @@ unfolding runOf
 read-back s a h count contact receive buffer p e d later n count′ contact′ receive′ r =
     due s _ count′ contact′ receive′ r
     ∙ ap (λ (q : Setpoints). framed (s .address) (pointsText q))
-    (kept s (h ▷ lineInput s (runOf s h) count contact receive buffer) later n ∙ written s (runOf s h) count contact receive buffer p e d)
+    (kept s (h ▷ lineInput s (runOf s h) count contact receive buffer) later n ∙ written s (runOf s h) count contact receive buffer p (run-in s h .together .none-waits) e d)
     ∙ ap (framed (s .address)) (figures s receive p e)

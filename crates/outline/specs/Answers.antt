@@ -120,12 +120,12 @@ pub record Given-when : Type 0 where
 abbrev pub row : ℕ → Bool → List ℕ → Given-when
 row n given to = record { number = n; given = given; to = to }
 
--- the table, row by row; A1: "BD takes 1, 2, 3 as start does, then 9 in mode 2."
+-- the table, row by row; A1: "BD takes 1, 2, 3 as start does, then 9 in mode 2."; A5: "setpoints no longer answer 3; 6 stands."
 abbrev pub tableOf : Settings → State → Weights → Request → List Given-when
 tableOf s st x r =
     row 1 (not (x .good)) (zero ∷ tare ∷ start ∷ day-close ∷ discharge ∷ [])
     ∷ row 2 (x .overload) (zero ∷ tare ∷ start ∷ discharge ∷ [])
-    ∷ row 3 (not (eqb (stageNumber (st .sequence .stage)) 0)) (zero ∷ tare ∷ tare-clear ∷ start ∷ setpoints ∷ discharge ∷ [])
+    ∷ row 3 (not (eqb (stageNumber (st .sequence .stage)) 0)) (zero ∷ tare ∷ tare-clear ∷ start ∷ discharge ∷ [])
     ∷ row 4 (not (x .stable)) (zero ∷ tare ∷ [])
     ∷ row 5 (isOutside s x (nameOf r)) (zero ∷ tare ∷ [])
     ∷ row 6 (isBroken s r) (setpoints ∷ [])

@@ -23,6 +23,7 @@ use Rattle.types.specs.declared.machine.Answer.{Answer}
 use Rattle.types.specs.declared.machine.Ticked.{Ticked}
 use Rattle.outline.specs.Settings.{settingsOf, openOf}
 use Rattle.outline.specs.Parts.{withSequence}
+use Rattle.outline.specs.Setpoints.{noneWaiting}
 use Rattle.outline.specs.Tick.{openState}
 use Rattle.outline.specs.Numbers.{openingNumber, outcomeNumber, stageNumber, errorNumber, judgementNumber, toldNumber, closedValues}
 use Rattle.outline.specs.Figures.{minus, givenOf, listA, tickAt, told, setpoints}
@@ -66,6 +67,7 @@ before = record {
   weighing = record { zero = pos 0; tracked = pos 0; tare = pos 0; counter = 0 };
   panel = record { display = display.Gross };
   setpoints = points;
+  waiting = noneWaiting;
   sequence = record { stage = stage.Idle; clock = 0; error = error.DischargeStopped; judgement = judgement.Ok };
   totals = record { total = 10; count = 1; back = batch.Weight 10 };
 }
@@ -546,21 +548,21 @@ butForStop n stop = replicate 7 n ++ (stop ∷ replicate 5 n)
 -- a fit tick goes on in its stage, a bad or overloaded one ends with error 9; a stop ends with error 7
 abbrev pub askedFit : ℕ → Asked
 askedFit n = record {
-  answers = 3 ∷ 3 ∷ 3 ∷ 3 ∷ 3 ∷ 3 ∷ 3 ∷ 0 ∷ 0 ∷ 0 ∷ 0 ∷ 0 ∷ 0 ∷ [];
+  answers = 3 ∷ 3 ∷ 3 ∷ 3 ∷ 0 ∷ 6 ∷ 3 ∷ 0 ∷ 0 ∷ 0 ∷ 0 ∷ 0 ∷ 0 ∷ [];
   stages = butForStop n 0;
   errors = butForStop 0 7;
 }
 
 abbrev pub askedBad : Asked
 askedBad = record {
-  answers = 1 ∷ 1 ∷ 3 ∷ 1 ∷ 3 ∷ 3 ∷ 1 ∷ 0 ∷ 0 ∷ 0 ∷ 0 ∷ 0 ∷ 1 ∷ [];
+  answers = 1 ∷ 1 ∷ 3 ∷ 1 ∷ 0 ∷ 6 ∷ 1 ∷ 0 ∷ 0 ∷ 0 ∷ 0 ∷ 0 ∷ 1 ∷ [];
   stages = replicate 13 0;
   errors = butForStop 9 7;
 }
 
 abbrev pub askedOverloaded : Asked
 askedOverloaded = record {
-  answers = 2 ∷ 2 ∷ 3 ∷ 2 ∷ 3 ∷ 3 ∷ 2 ∷ 0 ∷ 0 ∷ 0 ∷ 0 ∷ 0 ∷ 0 ∷ [];
+  answers = 2 ∷ 2 ∷ 3 ∷ 2 ∷ 0 ∷ 6 ∷ 2 ∷ 0 ∷ 0 ∷ 0 ∷ 0 ∷ 0 ∷ 0 ∷ [];
   stages = replicate 13 0;
   errors = butForStop 9 7;
 }
@@ -618,7 +620,7 @@ pub record Requested : Type 0 where
   -- 4 is not to a discharge: the first tick is not stable
   pub bid-unstable : bidAt settings3 openState (pos 1000) ≡ 0 ∷ 14 ∷ 0 ∷ []
   pub bid-unstable-tick : told settings3 openState (pos 1000) request.Discharge .reading .stable ≡ false
-  -- "| 3 | stage is not 00 |": to zero, tare, tare clear, start, setpoints and BD in 14, 15 and 16; to no other
+  -- "| 3 | stage is not 00 |": to zero, tare, tare clear, start and BD in 14, 15 and 16; to no other (A5: not to setpoints)
   -- "the rest of the tick goes on": but for the stop each tick is as without a request
   pub fit-14 : asked in14 (pos 1000) ≡ askedFit 14
   pub fit-15 : asked in15 (pos 1000) ≡ askedFit 15

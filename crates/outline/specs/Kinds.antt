@@ -3,6 +3,8 @@
 use mathlib.Core.Bool.{Bool, true, false}
 use Rattle.types.specs.declared.requests.Request.{Request}
 use Rattle.types.specs.declared.requests.Request.the-variants as request
+use Rattle.types.specs.declared.stages.Write.{Write}
+use Rattle.types.specs.declared.stages.Write.the-variants as write
 
 -- what is asked of the totals
 pub data Asked : Type 0 where
@@ -15,31 +17,36 @@ pub record Kind : Type 0 where
   pub zeroes : Bool
   -- a day close is asked
   pub closes : Bool
-  -- setpoints are written
-  pub writes : Bool
+  -- the setpoints that are written
+  pub writes : Write
   -- "Step 6 is passed over in a tick with an accepted start, or a stop."; A1: "BD, like BB, .. passes step 6 over"
   pub skips : Bool
   pub ledger : Asked
 
 -- none of these
 abbrev pub elsewhere : Kind
-elsewhere = record { zeroes = false; closes = false; writes = false; skips = false; ledger = nothing }
+elsewhere = record { zeroes = false; closes = false; writes = write.Nothing; skips = false; ledger = nothing }
 
 -- a start, a stop, a discharge
 abbrev pub skipping : Kind
-skipping = record { zeroes = false; closes = false; writes = false; skips = true; ledger = nothing }
+skipping = record { zeroes = false; closes = false; writes = write.Nothing; skips = true; ledger = nothing }
 
 abbrev pub requestKind : Request → Kind
 requestKind request.Nothing = elsewhere
-requestKind request.Zero = record { zeroes = true; closes = false; writes = false; skips = false; ledger = nothing }
+requestKind request.Zero = record { zeroes = true; closes = false; writes = write.Nothing; skips = false; ledger = nothing }
 requestKind request.Tare = elsewhere
 requestKind request.TareClear = elsewhere
 requestKind request.Start = skipping
 requestKind request.Stop = skipping
-requestKind (request.Set p) = record { zeroes = false; closes = false; writes = true; skips = false; ledger = nothing }
-requestKind request.TotalClear = record { zeroes = false; closes = false; writes = false; skips = false; ledger = clear }
-requestKind request.Undo = record { zeroes = false; closes = false; writes = false; skips = false; ledger = undo }
+requestKind (request.Set p) = record { zeroes = false; closes = false; writes = write.Points p; skips = false; ledger = nothing }
+requestKind request.TotalClear = record { zeroes = false; closes = false; writes = write.Nothing; skips = false; ledger = clear }
+requestKind request.Undo = record { zeroes = false; closes = false; writes = write.Nothing; skips = false; ledger = undo }
 requestKind request.ShowGross = elsewhere
 requestKind request.ShowNet = elsewhere
-requestKind request.DayClose = record { zeroes = false; closes = true; writes = false; skips = false; ledger = nothing }
+requestKind request.DayClose = record { zeroes = false; closes = true; writes = write.Nothing; skips = false; ledger = nothing }
 requestKind request.Discharge = skipping
+
+-- setpoints are written
+abbrev pub isWrite : Write → Bool
+isWrite write.Nothing = false
+isWrite (write.Points p) = true

@@ -34,6 +34,7 @@ pub mod WeightFigures
 pub mod OutputFigures
 pub mod DischargeFigures
 pub mod RefillFigures
+pub mod WaitingFigures
 pub mod Owed
 pub mod AnalogOwed
 -- runs, their histories, and what stays true over them
@@ -42,6 +43,7 @@ pub mod Run
 pub mod Day
 pub mod Zeroing
 pub mod Ledger
+pub mod Writes
 pub mod Ranges
 pub mod StaysTrue
 pub mod EveryLine

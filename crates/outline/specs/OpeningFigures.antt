@@ -14,6 +14,7 @@ use Rattle.types.specs.declared.weight.Display.the-variants as display
 use Rattle.types.specs.declared.stages.Stage.the-variants as stage
 use Rattle.types.specs.declared.stages.SequenceError.the-variants as error
 use Rattle.types.specs.declared.stages.Judgement.the-variants as judgement
+use Rattle.types.specs.declared.stages.Write.the-variants as write
 use Rattle.types.specs.declared.stages.Batch.the-variants as batch
 use Rattle.types.specs.declared.machine.State.{State}
 use Rattle.outline.specs.Analog.{f64}
@@ -72,7 +73,8 @@ writtenB = record {
   scale = record { low = f64 (minus 7); span = f64 (pos 77) };
 }
 
--- "Opening: zero, tare, totals, setpoints and error 0, stage 00, display gross, no judgement, nothing to take back, no good tick yet."
+-- "Opening: zero, tare, totals, setpoints and error 0, stage 00, display gross, no judgement, nothing to take back, no good tick yet.";
+-- and no setpoints waiting (A5)
 abbrev pub writtenState : State
 writtenState = record {
   book = record {
@@ -89,6 +91,7 @@ writtenState = record {
   weighing = record { zero = pos 0; tracked = pos 0; tare = pos 0; counter = 0 };
   panel = record { display = display.Gross };
   setpoints = record { target = 0; fall = 0; preliminary = 0; optional = 0; over = 0; under = 0; near = 0 };
+  waiting = record { write = write.Nothing };
   sequence = record { stage = stage.Idle; clock = 0; error = error.None; judgement = judgement.None };
   totals = record { total = 0; count = 0; back = batch.Nothing };
 }

@@ -5,6 +5,7 @@ use Rattle.types.specs.declared.weight.Weighing.{Weighing}
 use Rattle.types.specs.declared.weight.Display.{Display}
 use Rattle.types.specs.declared.daybook.Book.{Book}
 use Rattle.types.specs.declared.stages.Setpoints.{Setpoints}
+use Rattle.types.specs.declared.stages.Waiting.{Waiting}
 use Rattle.types.specs.declared.stages.Sequence.{Sequence}
 use Rattle.types.specs.declared.stages.Totals.{Totals}
 use Rattle.types.specs.declared.machine.State.{State}
@@ -16,6 +17,7 @@ withBook st x = record {
   weighing = st .weighing;
   panel = st .panel;
   setpoints = st .setpoints;
+  waiting = st .waiting;
   sequence = st .sequence;
   totals = st .totals;
 }
@@ -27,6 +29,7 @@ withStability st x = record {
   weighing = st .weighing;
   panel = st .panel;
   setpoints = st .setpoints;
+  waiting = st .waiting;
   sequence = st .sequence;
   totals = st .totals;
 }
@@ -38,6 +41,7 @@ withWeighing st x = record {
   weighing = x;
   panel = st .panel;
   setpoints = st .setpoints;
+  waiting = st .waiting;
   sequence = st .sequence;
   totals = st .totals;
 }
@@ -49,6 +53,7 @@ withDisplay st x = record {
   weighing = st .weighing;
   panel = record { display = x };
   setpoints = st .setpoints;
+  waiting = st .waiting;
   sequence = st .sequence;
   totals = st .totals;
 }
@@ -60,6 +65,19 @@ withSetpoints st x = record {
   weighing = st .weighing;
   panel = st .panel;
   setpoints = x;
+  waiting = st .waiting;
+  sequence = st .sequence;
+  totals = st .totals;
+}
+
+abbrev pub withWaiting : State → Waiting → State
+withWaiting st x = record {
+  book = st .book;
+  stability = st .stability;
+  weighing = st .weighing;
+  panel = st .panel;
+  setpoints = st .setpoints;
+  waiting = x;
   sequence = st .sequence;
   totals = st .totals;
 }
@@ -71,6 +89,7 @@ withSequence st x = record {
   weighing = st .weighing;
   panel = st .panel;
   setpoints = st .setpoints;
+  waiting = st .waiting;
   sequence = x;
   totals = st .totals;
 }
@@ -82,6 +101,7 @@ withTotals st x = record {
   weighing = st .weighing;
   panel = st .panel;
   setpoints = st .setpoints;
+  waiting = st .waiting;
   sequence = st .sequence;
   totals = x;
 }
@@ -94,6 +114,7 @@ pickState t a b = record {
   weighing = cond t (a .weighing) (b .weighing);
   panel = cond t (a .panel) (b .panel);
   setpoints = cond t (a .setpoints) (b .setpoints);
+  waiting = cond t (a .waiting) (b .waiting);
   sequence = cond t (a .sequence) (b .sequence);
   totals = cond t (a .totals) (b .totals);
 }

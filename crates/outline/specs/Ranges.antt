@@ -25,6 +25,8 @@ use Rattle.types.specs.declared.stages.Judgement.the-variants as judgement
 use Rattle.types.specs.declared.stages.SequenceError.{SequenceError}
 use Rattle.types.specs.declared.stages.SequenceError.the-variants as error
 use Rattle.types.specs.declared.stages.Sequence.{Sequence}
+use Rattle.types.specs.declared.stages.Write.{Write}
+use Rattle.types.specs.declared.stages.Write.the-variants as write
 use Rattle.types.specs.declared.stages.Batch.{Batch}
 use Rattle.types.specs.declared.stages.Batch.the-variants as batch
 use Rattle.types.specs.declared.stages.Totals.{Totals}
@@ -32,7 +34,7 @@ use Rattle.types.specs.declared.machine.State.{State}
 use Rattle.outline.specs.Limits.{rawLimit, riseLimit, dayTicks, totalLimit, batchLimit, overloadMargin}
 use Rattle.outline.specs.Weight.{fitOf}
 use Rattle.outline.specs.Zero.{trackingOn}
-use Rattle.outline.specs.Setpoints.{setpointsFit, noLargeFlow}
+use Rattle.outline.specs.Setpoints.{setpointsFit, noneWaiting, noLargeFlow}
 use Rattle.outline.specs.Stages.{idleOf, flowingOf, emptyingOf, dischargingOf}
 
 -- the day book
@@ -120,6 +122,11 @@ pub record TotalsRange (t : Totals) : Type 0 where
   pub count : t .count ≤ batchLimit
   pub back : BackRange t (t .back)
 
+-- A5: what waits was accepted, so it keeps the rules of 6
+abbrev pub writeFits : Mode → Write → Bool
+writeFits m write.Nothing = true
+writeFits m (write.Points p) = setpointsFit m p
+
 -- the flow stages that a batch with these setpoints has: none where F is 0, 04 and 05 where there is a large flow, 06 and 07 where P is
 -- not 0
 abbrev pub flowFits : Mode → Setpoints → Stage → Bool
@@ -148,12 +155,15 @@ pub record TogetherRange (s : Settings) (st : State) : Type 0 where
   pub unbroken : st .stability .good ≡ false → st .weighing .counter ≡ 0
   -- a batch's setpoints stay as they are until it ends
   pub flow : flowFits (s .batching .mode) (st .setpoints) (st .sequence .stage) ≡ true
+  -- A5: in 00 nothing waits
+  pub none-waits : idleOf (st .sequence .stage) ≡ true → st .waiting ≡ noneWaiting
 
 pub record StateRange (s : Settings) (st : State) : Type 0 where
   pub book : BookRange (st .book)
   pub stability : StabilityRange (s .steadiness) (st .stability)
   pub weighing : WeighingRange (s .range) (s .tracking) (st .weighing)
   pub setpoints : setpointsFit (s .batching .mode) (st .setpoints) ≡ true
+  pub waiting : writeFits (s .batching .mode) (st .waiting .write) ≡ true
   pub sequence : SequenceRange (s .batching) (st .sequence)
   pub totals : TotalsRange (st .totals)
   pub together : TogetherRange s st

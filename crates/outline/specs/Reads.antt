@@ -17,6 +17,7 @@ use Rattle.types.specs.declared.lines.Command.{Command}
 use Rattle.types.specs.declared.lines.Command.the-variants as command
 use Rattle.types.specs.declared.lines.Reply.the-variants as reply
 use Rattle.outline.specs.Weight.{rawOf}
+use Rattle.outline.specs.Setpoints.{latestOf}
 use Rattle.outline.specs.Requests.{rulingOf, grantedOf, decidedOf}
 use Rattle.outline.specs.Tick.{enteredOf, settledOf}
 use Rattle.outline.specs.Replies.{wordRequest, requestOf, shownOf, wordReply, replyDue}
@@ -34,15 +35,16 @@ module _ (s : Settings) (st : State) (i : Input) where
   unfolding enteredOf
   totals-stay e = ap (λ (t : State). t .totals) (settled-unasked e)
 
-  setpoints-stay : i .request ≡ request.Nothing → settledOf s st i .state .setpoints ≡ st .setpoints
+  latest-stays : i .request ≡ request.Nothing
+      → latestOf (settledOf s st i .state .setpoints) (settledOf s st i .state .waiting) ≡ latestOf (st .setpoints) (st .waiting)
   unfolding enteredOf
-  setpoints-stay e = ap (λ (t : State). t .setpoints) (settled-unasked e)
+  latest-stays e = ap (λ (t : State). latestOf (t .setpoints) (t .waiting)) (settled-unasked e)
 
   word-before : (w : Word) → i .request ≡ wordRequest w → (x : Reading) (o : Outcome)
       → wordReply w (settledOf s st i .state) x o ≡ wordReply w st x o
   word-before word.ReadWeight e x o = ap (λ (p : Panel). reply.Weight (shownOf (p .display) x)) (panel-stays e)
   word-before word.ReadTotal e x o = ap (λ (t : Totals). reply.Total (t .total) (t .count)) (totals-stay e)
-  word-before word.ReadSetpoints e x o = ap (λ (p : Setpoints). reply.Points p) (setpoints-stay e)
+  word-before word.ReadSetpoints e x o = ap (λ (p : Setpoints). reply.Points p) (latest-stays e)
   word-before word.Zero e x o = refl
   word-before word.Tare e x o = refl
   word-before word.TareClear e x o = refl

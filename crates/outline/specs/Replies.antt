@@ -28,6 +28,7 @@ use Rattle.types.specs.declared.lines.Reply.the-variants as reply
 use Rattle.types.specs.declared.lines.LineAnswer.{LineAnswer}
 use Rattle.types.specs.declared.lines.LineAnswer.the-variants as told
 use Rattle.types.specs.declared.lines.LineTick.{LineTick}
+use Rattle.outline.specs.Setpoints.{latestOf}
 use Rattle.outline.specs.Tick.{settledOf, servedOf, readingOf, unaskedOf, tickOf}
 use Rattle.outline.specs.Lines.{hasPrefix, tensDigit, unitsDigit, lettersFor, setLetters, commandOf}
 use Rattle.outline.specs.Numbers.{refusalNumber, toldNumber}
@@ -154,7 +155,8 @@ requestReply k (outcome.Refused n) = reply.Refused (refusalNumber n)
 abbrev pub wordReply : Word → State → Reading → Outcome → Reply
 wordReply word.ReadWeight st x o = reply.Weight (shownOf (st .panel .display) x)
 wordReply word.ReadTotal st x o = reply.Total (st .totals .total) (st .totals .count)
-wordReply word.ReadSetpoints st x o = reply.Points (st .setpoints)
+-- A5: "RS reads the waiting set if there is one."
+wordReply word.ReadSetpoints st x o = reply.Points (latestOf (st .setpoints) (st .waiting))
 wordReply word.Zero st x o = requestReply (lettersFor word.Zero) o
 wordReply word.Tare st x o = requestReply (lettersFor word.Tare) o
 wordReply word.TareClear st x o = requestReply (lettersFor word.TareClear) o

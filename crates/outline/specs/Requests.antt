@@ -15,16 +15,17 @@ use Rattle.types.specs.declared.requests.Refusal.{Refusal}
 use Rattle.types.specs.declared.requests.Refusal.the-variants as refusal
 use Rattle.types.specs.declared.requests.Outcome.{Outcome}
 use Rattle.types.specs.declared.requests.Outcome.the-variants as outcome
+use Rattle.types.specs.declared.stages.Setpoints.{Setpoints}
 use Rattle.types.specs.declared.stages.Sequence.{Sequence}
 use Rattle.types.specs.declared.stages.Totals.{Totals}
 use Rattle.types.specs.declared.machine.State.{State}
 use Rattle.types.specs.declared.machine.Settled.{Settled}
 use Rattle.outline.specs.DayBook.{closedOf}
 use Rattle.outline.specs.Zero.{inZeroRange, zeroedOf, inTareRange, taredOf}
-use Rattle.outline.specs.Setpoints.{setpointsFit}
+use Rattle.outline.specs.Setpoints.{setpointsFit, noneWaiting, waitingFor, latestOf}
 use Rattle.outline.specs.Stages.{idleOf, startSequence, stopSequence, dischargeSequence}
 use Rattle.outline.specs.Totals.{clearTotals, noneBack, takenBack}
-use Rattle.outline.specs.Parts.{withBook, withWeighing, withDisplay, withSetpoints, withSequence, withTotals, pickState}
+use Rattle.outline.specs.Parts.{withBook, withWeighing, withDisplay, withSetpoints, withWaiting, withSequence, withTotals, pickState}
 
 -- stage 00
 abbrev pub idleNow : State → Bool
@@ -80,7 +81,8 @@ rowsTo range mode q t x request.Tare = row1 x ∷ row2 x ∷ row3 q ∷ row4 x �
 rowsTo range mode q t x request.TareClear = row3 q ∷ []
 rowsTo range mode q t x request.Start = row1 x ∷ row2 x ∷ row3 q ∷ []
 rowsTo range mode q t x request.Stop = []
-rowsTo range mode q t x (request.Set p) = row3 q ∷ row6 (setpointsFit mode p) ∷ []
+-- A5: "setpoints no longer answer 3; 6 stands."
+rowsTo range mode q t x (request.Set p) = row6 (setpointsFit mode p) ∷ []
 rowsTo range mode q t x request.TotalClear = []
 rowsTo range mode q t x request.Undo = row7 t ∷ []
 rowsTo range mode q t x request.ShowGross = []
@@ -124,6 +126,21 @@ closing st = record {
   closed = closed.Day (st .book);
 }
 
+-- A5: "It comes into use at the tick the stage returns to 00": where it does so, nothing waits any more
+abbrev pub comesIn : Bool → State → State
+comesIn returned st =
+    withWaiting (withSetpoints st (cond returned (latestOf (st .setpoints) (st .waiting)) (st .setpoints)))
+    (cond returned noneWaiting (st .waiting))
+
+-- a stop outside 00 returns to 00
+abbrev pub stoppedOf : State → State
+stoppedOf st = comesIn (not (idleNow st)) (withSequence st (stopSequence (st .sequence)))
+
+-- A5: "A write in any stage but 00 goes to a waiting set beside the one in use"; in 00 it is in use at once
+abbrev pub storedOf : State → Setpoints → State
+storedOf st p =
+    withWaiting (withSetpoints st (cond (idleNow st) p (st .setpoints))) (cond (idleNow st) (st .waiting) (waitingFor p))
+
 unfoldable pub grantedOf : State → Weights → Request → Settled
 grantedOf st x request.Nothing = plainly st
 grantedOf st x request.Zero = keying (withWeighing st (zeroedOf (st .weighing) (x .raw)))
@@ -131,8 +148,8 @@ grantedOf st x request.Tare = plainly (withWeighing st (taredOf (st .weighing) (
 -- "Tare clear makes tare 0; total clear makes total and count 0; show gross and show net choose the displayed weight."
 grantedOf st x request.TareClear = plainly (withWeighing st (taredOf (st .weighing) (pos 0)))
 grantedOf st x request.Start = holding (withSequence st startSequence)
-grantedOf st x request.Stop = holding (withSequence st (stopSequence (st .sequence)))
-grantedOf st x (request.Set p) = plainly (withSetpoints st p)
+grantedOf st x request.Stop = holding (stoppedOf st)
+grantedOf st x (request.Set p) = plainly (storedOf st p)
 grantedOf st x request.TotalClear = plainly (withTotals st clearTotals)
 grantedOf st x request.Undo = plainly (withTotals st (takenBack (st .totals)))
 grantedOf st x request.ShowGross = plainly (withDisplay st display.Gross)

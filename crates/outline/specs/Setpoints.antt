@@ -1,4 +1,4 @@
--- The outline's section "Setpoints".
+-- The outline's section "Setpoints", and of request A5 the waiting set.
 use mathlib.Core.Bool.{Bool, true, false, _&&_, _||_}
 use lib.Dec.{leb, ltb, eqb}
 use lib.IntN.{ℤ, pos}
@@ -6,6 +6,9 @@ use lib.Signed.{leZ, ltZ}
 use Rattle.types.specs.declared.settings.Mode.{Mode}
 use Rattle.types.specs.declared.settings.Mode.the-variants as mode
 use Rattle.types.specs.declared.stages.Setpoints.{Setpoints}
+use Rattle.types.specs.declared.stages.Write.{Write}
+use Rattle.types.specs.declared.stages.Write.the-variants as write
+use Rattle.types.specs.declared.stages.Waiting.{Waiting}
 use Rattle.types.specs.declared.weight.Weights.{Weights}
 use Rattle.outline.specs.Limits.{setpointLimit}
 use Rattle.outline.specs.Weight.{fitOf}
@@ -37,6 +40,23 @@ optionalFits mode.Loss p = true
 
 unfoldable pub setpointsFit : Mode → Setpoints → Bool
 setpointsFit m p = sevenFit p && fallFits p && preliminaryFits p && optionalFits m p
+
+-- ---- A5: "A write in any stage but 00 goes to a waiting set beside the one in use"
+-- at opening, and in every stage 00: none
+abbrev pub noneWaiting : Waiting
+noneWaiting = record { write = write.Nothing }
+
+-- "a second write replaces the first": the waiting set is the one written, whatever waited before
+abbrev pub waitingFor : Setpoints → Waiting
+waitingFor p = record { write = write.Points p }
+
+abbrev pub writtenElse : Write → Setpoints → Setpoints
+writtenElse write.Nothing p = p
+writtenElse (write.Points n) p = n
+
+-- "the waiting set if there is one", else that in use: what RS reads, and what is in use when the stage is 00 again
+abbrev pub latestOf : Setpoints → Waiting → Setpoints
+latestOf p w = writtenElse (w .write) p
 
 -- "There is no large flow if OP is 0 or in mode 2 (004: full replaces OP)."
 abbrev pub noLargeFlow : Mode → Setpoints → Bool

@@ -1,5 +1,6 @@
 -- What stays true after any ticks and requests from an accepted opening: demand 3, as named statements. They are proved in proofs/,
--- and `every_run` has them as its `ensures`. Histories stand in Run, Day, Zeroing and Ledger, ranges in Ranges.
+-- and `every_run` has them as its `ensures`. Histories stand in Run, Day, Zeroing, Ledger and Writes, ranges in
+-- Ranges.
 use Prim.Native.Nat.{ℕ, _+_, _≤_}
 use mathlib.Core.Path.{_≡_}
 use mathlib.Core.Bool.{Bool, true, false, _&&_, _||_}
@@ -21,7 +22,8 @@ use Rattle.types.specs.declared.lines.LineAnswer.the-variants as told
 use Rattle.types.specs.declared.lines.LineTick.{LineTick}
 use Rattle.types.specs.declared.lines.Word.the-variants as word
 use Rattle.outline.specs.Limits.{blockLimit, totalLimit, batchLimit}
-use Rattle.outline.specs.Stages.{shut, dischargingOf}
+use Rattle.outline.specs.Setpoints.{latestOf}
+use Rattle.outline.specs.Stages.{shut, idleOf, dischargingOf}
 use Rattle.outline.specs.Totals.{clearTotals, takenBack}
 use Rattle.outline.specs.Requests.{doneOf}
 use Rattle.outline.specs.Tick.{settledOf, servedOf, nextOf, tickOf, blockOf}
@@ -29,11 +31,12 @@ use Rattle.outline.specs.Lines.{lineOf, prefixLength, commandOf}
 use Rattle.outline.specs.Replies.{framed, dueText, lineTickOf}
 use Rattle.outline.specs.Log.{requestTick}
 use Rattle.outline.specs.Owed.{Accepted}
-use Rattle.outline.specs.Kinds.{Asked, nothing, undo, clear, requestKind}
+use Rattle.outline.specs.Kinds.{Asked, nothing, undo, clear, requestKind, isWrite}
 use Rattle.outline.specs.Run.{History, _▷_, runOf, runFrom, thenAll, blockInputs, lineInput, logInput, withoutRequest}
 use Rattle.outline.specs.Day.{tapeOf, bookHistory}
 use Rattle.outline.specs.Zeroing.{seenRun, zeroingOf, sumOf, AllWithin}
 use Rattle.outline.specs.Ledger.{eventRun, ledgerOf, sumN}
+use Rattle.outline.specs.Writes.{pointsRun, writtenSince, writtenLast}
 use Rattle.outline.specs.Ranges.{Balanced, StateRange, WeightsRange, Unstopped}
 
 -- ---- 1. "the day balances (opening + refilled - used - unbooked is the last good raw)"
@@ -112,7 +115,7 @@ Refusals = (s : Settings) (st : State) (i : Input) → doneOf (tickOf s st i .an
 -- ---- 9. "Setpoints written on the line read back as the same figures"
 -- the tick writes setpoints: it is asked to, and accepts
 abbrev pub setsAt : Settings → State → Input → Bool
-setsAt s st i = requestKind (i .request) .writes && doneOf (tickOf s st i .answer .outcome)
+setsAt s st i = isWrite (requestKind (i .request) .writes) && doneOf (tickOf s st i .answer .outcome)
 
 -- none of the ticks does, from a state on; writes that are refused may be among them
 abbrev pub NoneSet : Settings → State → List Input → Type 0
@@ -193,3 +196,18 @@ pub record Keeps (s : Settings) (st : State) : Type 0 where
 
 abbrev pub FromRange : Type 0
 FromRange = (s : Settings) (st : State) → StateRange s st → Balanced (st .book) → (is : List Input) → Keeps s (runFrom s st is)
+
+-- ---- 15. A5: the waiting set is the last accepted write since the stage was last 00, and there is none in 00
+abbrev pub WaitingOfWrites : Type 0
+WaitingOfWrites = (s : Settings) → Accepted s → (h : History Input) → runOf s h .waiting .write ≡ writtenSince (pointsRun s h)
+
+-- ---- 16. A5: the set in use never changes outside 00: a tick that changes it, in whatever state, answers stage 00
+abbrev pub InUseStays : Type 0
+InUseStays = (s : Settings) (st : State) (i : Input) → idleOf (tickOf s st i .answer .stage) ≡ false
+    → nextOf s st i .setpoints ≡ st .setpoints
+
+-- ---- 17. A5: "It comes into use": what waits, or where nothing does the set in use, is the last accepted write of all; so in 00 that is in
+-- use
+abbrev pub LatestOfWrites : Type 0
+LatestOfWrites = (s : Settings) → Accepted s → (h : History Input)
+    → latestOf (runOf s h .setpoints) (runOf s h .waiting) ≡ writtenLast (pointsRun s h)

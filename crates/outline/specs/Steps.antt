@@ -2,7 +2,7 @@
 -- proofs of functions that assign parts of a state cite: a record with an equation for each call, one law that the tick is what is left to
 -- do with those parts, and one law for each way that step 6 can go. Assumes nothing.
 use mathlib.Core.Path.{_≡_, refl, sym, ap, _∙_}
-use mathlib.Core.Bool.{Bool, true, false, cond, not}
+use mathlib.Core.Bool.{Bool, true, false, cond, not, _&&_}
 use lib.IntN.{ℤ, pos}
 use Rattle.types.specs.declared.settings.Settings.{Settings}
 use Rattle.types.specs.declared.weight.Raw.{Raw}
@@ -17,6 +17,11 @@ use Rattle.types.specs.declared.stages.Advanced.{Advanced}
 use Rattle.types.specs.declared.stages.Sequence.{Sequence}
 use Rattle.types.specs.declared.stages.Totals.{Totals}
 use Rattle.types.specs.declared.stages.Setpoints.{Setpoints}
+use Rattle.types.specs.declared.stages.Waiting.{Waiting}
+use Rattle.types.specs.declared.stages.Facts.{Facts}
+use Rattle.types.specs.declared.stages.Move.{Move}
+use Rattle.types.specs.declared.stages.Move.the-variants as move
+use Rattle.types.specs.declared.settings.Batching.{Batching}
 use Rattle.types.specs.declared.requests.Request.{Request}
 use Rattle.types.specs.declared.requests.Request.the-variants as request
 use Rattle.types.specs.declared.requests.Outcome.{Outcome}
@@ -29,10 +34,13 @@ use Rattle.types.specs.declared.machine.Ticked.{Ticked}
 use Rattle.outline.specs.Weight.{rawOf, weighOf, steadiedOf, fitOf}
 use Rattle.outline.specs.DayBook.{bookOf, closedOf}
 use Rattle.outline.specs.Zero.{zeroedOf, taredOf, trackedOf}
-use Rattle.outline.specs.Stages.{idleOf, startSequence, stopSequence, dischargeSequence, comparedOf, factsAt, factsOf, advanceOf}
-use Rattle.outline.specs.Totals.{clearTotals, takenBack, bookedTotals, bookedSequence}
-use Rattle.outline.specs.Parts.{withBook, withWeighing, withDisplay, withSetpoints, withSequence, withTotals, pickState}
-use Rattle.outline.specs.Requests.{plainly, rowsTo, firstOf, grantOf, unlessRefused, decidedOf, grantedOf, rulingOf}
+use Rattle.outline.specs.Stages.{idleOf, startSequence, stopSequence, dischargeSequence, comparedOf, factsAt, factsOf}
+use Rattle.outline.specs.Stages.{moveOf, landOf, lateOf, slowOf, advanceOf}
+use Rattle.outline.specs.Setpoints.{noneWaiting, waitingFor, latestOf}
+use Rattle.outline.specs.Totals.{clearTotals, takenBack, bookable, bookedTotals, bookedSequence}
+use Rattle.outline.specs.Parts.{withBook, withWeighing, withDisplay, withSetpoints, withWaiting, withSequence, withTotals, pickState}
+use Rattle.outline.specs.Requests.{idleNow, comesIn, stoppedOf, storedOf, plainly}
+use Rattle.outline.specs.Requests.{rowsTo, firstOf, grantOf, unlessRefused, decidedOf, grantedOf, rulingOf}
 use Rattle.outline.specs.Tick.{enteredOf, weightsOf, settledOf, servedOf, withTracking, finishedOf, steppedOf, endedOf, nextOf}
 use Rattle.outline.specs.Tick.{outputsOf, tickOf, unaskedOf}
 
@@ -44,9 +52,18 @@ partsOf st b q w = record {
   weighing = w;
   panel = st .panel;
   setpoints = st .setpoints;
+  waiting = st .waiting;
   sequence = st .sequence;
   totals = st .totals;
 }
+
+cond-same : {A : Type 0} (t : Bool) (a : A) → cond t a a ≡ a
+cond-same true a = refl
+cond-same false a = refl
+
+and-no : (t : Bool) → t && false ≡ false
+and-no true = refl
+and-no false = refl
 
 -- ---- a tick that is asked nothing: steps 1 to 5, call by call
 pub record Parts (s : Settings) (contact : Bool) (st : State) (count : ℤ) (raw : Raw) (q : Stability) (b : Book) (x : Weights)
@@ -74,6 +91,29 @@ module _ {s : Settings} {contact : Bool} {st : State} {count : ℤ} {raw : Raw} 
   parts-served = simp (p .weighed, p .steadied, p .raws)
 
 -- ---- step 6
+-- a batch that finishes is in 00: a stage that is not 00 after step 6 has finished none
+abbrev StillUnfinished : Advanced → Type 0
+StillUnfinished a = idleOf (a .sequence .stage) ≡ false → a .finished ≡ false
+
+either-way : {A : Type 0} (P : A → Type 0) (t : Bool) {a b : A} → P a → P b → P (cond t a b)
+either-way P true p q = p
+either-way P false p q = q
+
+land-unfinished : (q : Sequence) (m : Move) → StillUnfinished (landOf q m)
+unfolding landOf
+land-unfinished q (move.To g) e = refl
+land-unfinished q (move.Fail k) e = refl
+land-unfinished q (move.Finish j) e = e
+land-unfinished q move.Emptied e = refl
+
+pub unfinished : (b : Batching) (p : Setpoints) (q : Sequence) (f : Facts) → StillUnfinished (advanceOf b p q f)
+unfolding advanceOf
+unfinished b p q f =
+    either-way StillUnfinished (idleOf (q .stage)) (λ e. refl)
+    (either-way StillUnfinished (f .unfit) (λ e. refl)
+    (either-way StillUnfinished (lateOf b q) (λ e. refl)
+    (either-way StillUnfinished (slowOf b q) (λ e. refl) (land-unfinished q (moveOf b p (q .stage) f)))))
+
 module _ (s : Settings) (st : State) (x : Weights) where
   pub step-idle : idleOf (st .sequence .stage) ≡ true → st ≡ steppedOf s st x
   unfolding steppedOf finishedOf advanceOf
@@ -83,33 +123,62 @@ module _ (s : Settings) (st : State) (x : Weights) where
   module _ (n : Setpoints) (fit : Bool) (v : ℤ) (a : Advanced) (en : n ≡ st .setpoints) (ef : fit ≡ fitOf x)
       (ev : v ≡ comparedOf (s .batching .mode) x)
       (ea : a ≡ advanceOf (s .batching) n (st .sequence) (factsAt n (not fit) (x .stable) v (x .gross))) where
-    pub step-on : a .finished ≡ false → withSequence st (a .sequence) ≡ steppedOf s st x
+    -- the stage is not 00 after it
+    pub step-on : idleOf (a .sequence .stage) ≡ false → withSequence st (a .sequence) ≡ steppedOf s st x
     unfolding steppedOf finishedOf factsOf
-    step-on e = simp (← en, ← ef, ← ev, ← ea, e)
+    step-on e =
+        let on : a .finished ≡ false
+        = ap (λ (r : Advanced). r .finished) ea ∙ unfinished _ n _ _ (sym (ap (λ (r : Advanced). idleOf (r .sequence .stage)) ea) ∙ e) in
+        simp (← en, ← ef, ← ev, ← ea, e, on, and-no)
 
-    pub step-finished : (sq : Sequence) (t : Totals) → a .finished ≡ true → sq ≡ bookedSequence (st .totals) v (a .sequence)
-        → t ≡ bookedTotals (st .totals) v
-        → withTotals (withSequence st sq) t ≡ steppedOf s st x
-    unfolding steppedOf finishedOf factsOf
-    step-finished sq t e es et = simp (← en, ← ef, ← ev, ← ea, e, es, et)
+    -- the stage returns to 00: what waited is in use
+    module _ (p : Setpoints) (w : Waiting) (runs : idleOf (st .sequence .stage) ≡ false) (back : idleOf (a .sequence .stage) ≡ true)
+        (ep : p ≡ latestOf (st .setpoints) (st .waiting)) (ew : w ≡ noneWaiting) where
+      pub step-back : a .finished ≡ false → withWaiting (withSetpoints (withSequence st (a .sequence)) p) w ≡ steppedOf s st x
+      unfolding steppedOf finishedOf factsOf
+      step-back e = simp (← en, ← ef, ← ev, ← ea, runs, back, e, ep, ew)
+
+      pub step-finished : (sq : Sequence) (t : Totals) → a .finished ≡ true → sq ≡ bookedSequence (st .totals) v (a .sequence)
+          → t ≡ bookedTotals (st .totals) v
+          → withWaiting (withSetpoints (withTotals (withSequence st sq) t) p) w ≡ steppedOf s st x
+      unfolding steppedOf finishedOf factsOf
+      step-finished sq t e es et = simp (← en, ← ef, ← ev, ← ea, runs, back, e, es, et, ep, ew)
 
 -- ---- the outputs: no step after the request changes the panel
 -- what they ask of step 4: its answer, with the state after step 6 in place of its own
 abbrev pub answeredOf : Outcome → Closed → State → Settled
 answeredOf o d st = record { outcome = o; state = st; held = false; keyed = false; closed = d }
 
-cond-same : {A : Type 0} (t : Bool) (a : A) → cond t a a ≡ a
-cond-same true a = refl
-cond-same false a = refl
-
 step-panel : (s : Settings) (st : State) (x : Weights) → steppedOf s st x .panel ≡ st .panel
 unfolding steppedOf finishedOf
 step-panel s st x = simp cond-same
 
--- nor the setpoints
-pub step-setpoints : (s : Settings) (st : State) (x : Weights) → steppedOf s st x .setpoints ≡ st .setpoints
+-- booking leaves the stage
+pub booked-stage : (s : Settings) (st : State) (x : Weights) (a : Advanced) → finishedOf s st x a .sequence .stage ≡ a .sequence .stage
+unfolding finishedOf bookedSequence
+booked-stage s st x a =
+    let Kept : Sequence → Type 0 = λ (q : Sequence). q .stage ≡ a .sequence .stage in
+    either-way Kept (a .finished) (either-way Kept (bookable (st .totals) (comparedOf (s .batching .mode) x)) refl refl) refl
+
+-- where the stage is not 00 after step 6 it was not 00 before, and both sets of setpoints stay
+pub step-runs : (s : Settings) (st : State) (x : Weights) → idleOf (steppedOf s st x .sequence .stage) ≡ false
+    → (idleOf (st .sequence .stage) ≡ false) × (steppedOf s st x .setpoints ≡ st .setpoints) × (steppedOf s st x .waiting ≡ st .waiting)
 unfolding steppedOf finishedOf
-step-setpoints s st x = simp cond-same
+step-runs s st x e = (
+  go (idleOf (st .sequence .stage)) refl,
+  ap (λ (t : Bool). comesIn t (finishedOf s st x a) .setpoints) on ∙ cond-same (a .finished) (st .setpoints),
+  ap (λ (t : Bool). comesIn t (finishedOf s st x a) .waiting) on ∙ cond-same (a .finished) (st .waiting),
+)
+  where
+    a : Advanced
+    a = advanceOf (s .batching) (st .setpoints) (st .sequence) (factsOf (s .batching .mode) (st .setpoints) x)
+
+    on : not (idleNow st) && idleOf (a .sequence .stage) ≡ false
+    on = ap (λ (t : Bool). not (idleNow st) && t) (sym (ap idleOf (booked-stage s st x a)) ∙ e) ∙ and-no (not (idleNow st))
+
+    go : (t : Bool) → idleOf (st .sequence .stage) ≡ t → idleOf (st .sequence .stage) ≡ false
+    go true p = ap (λ (r : State). idleOf (r .sequence .stage)) (step-idle s st x p) ∙ e
+    go false p = p
 
 end-panel : (s : Settings) (a : Settled) (x : Weights) → endedOf s a x .panel ≡ a .state .panel
 unfolding endedOf withTracking
@@ -150,6 +219,26 @@ pub left-by : {a : Settled} {st st′ : State} {held held′ keyed keyed′ : Bo
     → leftOf outcome.Done st′ held′ keyed′ day′ ≡ a
 left-by es eh ek ed e = (λ i. leftOf outcome.Done (es i) (eh i) (ek i) (ed i)) ∙ e
 
+-- ---- the two requests that ask for the stage
+module _ (st : State) where
+  -- a stop in 00 changes nothing
+  pub stopped-idle : idleOf (st .sequence .stage) ≡ true → st ≡ stoppedOf st
+  unfolding stopSequence
+  stopped-idle i = simp i
+
+  pub stopped-runs : idleOf (st .sequence .stage) ≡ false → (q : Sequence) (p : Setpoints) (w : Waiting)
+      → q ≡ stopSequence (st .sequence) → p ≡ latestOf (st .setpoints) (st .waiting) → w ≡ noneWaiting
+      → withWaiting (withSetpoints (withSequence st q) p) w ≡ stoppedOf st
+  stopped-runs i q p w eq ep ew = simp (i, eq, ep, ew)
+
+  -- a write is in use at once in 00; in any other stage it waits
+  pub stored-idle : (p : Setpoints) → idleOf (st .sequence .stage) ≡ true → withSetpoints st p ≡ storedOf st p
+  stored-idle p i = simp i
+
+  pub stored-runs : (p : Setpoints) → idleOf (st .sequence .stage) ≡ false → (w : Waiting) → w ≡ waitingFor p
+      → withWaiting st w ≡ storedOf st p
+  stored-runs p i w ew = simp (i, ew)
+
 -- each way: the part that the request changes
 module _ (st : State) (x : Weights) (d : Request) where
   pub left-nothing : d ≡ request.Nothing → leftOf outcome.Done st false false closed.Nothing ≡ grantedOf st x d
@@ -176,15 +265,14 @@ module _ (st : State) (x : Weights) (d : Request) where
   unfolding grantedOf
   left-start e q eq = simp (e, eq)
 
-  pub left-stop : d ≡ request.Stop → (q : Sequence) → q ≡ stopSequence (st .sequence)
-      → leftOf outcome.Done (withSequence st q) true false closed.Nothing ≡ grantedOf st x d
+  pub left-stop : d ≡ request.Stop → (r : State) → r ≡ stoppedOf st → leftOf outcome.Done r true false closed.Nothing ≡ grantedOf st x d
   unfolding grantedOf
-  left-stop e q eq = simp (e, eq)
+  left-stop e r er = simp (e, er)
 
-  pub left-set : (p : Setpoints) → d ≡ request.Set p
-      → leftOf outcome.Done (withSetpoints st p) false false closed.Nothing ≡ grantedOf st x d
+  pub left-set : (p : Setpoints) → d ≡ request.Set p → (r : State) → r ≡ storedOf st p
+      → leftOf outcome.Done r false false closed.Nothing ≡ grantedOf st x d
   unfolding grantedOf
-  left-set p e = simp e
+  left-set p e r er = simp (e, er)
 
   pub left-total-clear : d ≡ request.TotalClear → (t : Totals) → t ≡ clearTotals
       → leftOf outcome.Done (withTotals st t) false false closed.Nothing ≡ grantedOf st x d

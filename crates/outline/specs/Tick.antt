@@ -1,5 +1,5 @@
 -- The outline's section "One tick, in this order", the opening state, and blocks.
-use mathlib.Core.Bool.{Bool, false, cond}
+use mathlib.Core.Bool.{Bool, false, cond, not, _&&_}
 use mathlib.Core.List.{List, [], _∷_, foldl}
 use lib.Dec.{leb}
 use lib.ListN.{length}
@@ -24,14 +24,15 @@ use Rattle.outline.specs.Limits.{blockLimit}
 use Rattle.outline.specs.Weight.{rawOf, weighOf, steadiedOf, fitOf, displayedOf}
 use Rattle.outline.specs.DayBook.{openBook, bookOf}
 use Rattle.outline.specs.Zero.{trackedOf}
-use Rattle.outline.specs.Setpoints.{openSetpoints, nearOf, fullOf}
-use Rattle.outline.specs.Stages.{openSequence, comparedOf, factsOf, advanceOf, gatesOf}
+use Rattle.outline.specs.Setpoints.{openSetpoints, noneWaiting, nearOf, fullOf}
+use Rattle.outline.specs.Stages.{openSequence, comparedOf, factsOf, advanceOf, idleOf, gatesOf}
 use Rattle.outline.specs.Totals.{clearTotals, bookedTotals, bookedSequence}
 use Rattle.outline.specs.Parts.{withBook, withStability, withWeighing, withSequence, withTotals, pickState}
-use Rattle.outline.specs.Requests.{idleNow, decidedOf}
+use Rattle.outline.specs.Requests.{idleNow, comesIn, decidedOf}
 use Rattle.outline.specs.Analog.{analogOf}
 
--- "Opening: zero, tare, totals, setpoints and error 0, stage 00, display gross, no judgement, nothing to take back, no good tick yet."
+-- "Opening: zero, tare, totals, setpoints and error 0, stage 00, display gross, no judgement, nothing to take back, no good tick yet.";
+-- and no setpoints waiting (A5)
 unfoldable pub openState : State
 openState = record {
   book = openBook;
@@ -39,6 +40,7 @@ openState = record {
   weighing = record { zero = pos 0; tracked = pos 0; tare = pos 0; counter = 0 };
   panel = record { display = display.Gross };
   setpoints = openSetpoints;
+  waiting = noneWaiting;
   sequence = openSequence;
   totals = clearTotals;
 }
@@ -80,10 +82,14 @@ finishedOf s st x a =
     (withTotals (withSequence st (bookedSequence (st .totals) v (a .sequence))) (bookedTotals (st .totals) v))
     (withSequence st (a .sequence))
 
+-- A5: "It comes into use at the tick the stage returns to 00, by finish or error, after judgement and booking."
+abbrev pub landedOf : Settings → State → Weights → Advanced → State
+landedOf s st x a = comesIn (not (idleNow st) && idleOf (a .sequence .stage)) (finishedOf s st x a)
+
 -- "6. Sequence."
 unfoldable pub steppedOf : Settings → State → Weights → State
 steppedOf s st x =
-    finishedOf s st x (advanceOf (s .batching) (st .setpoints) (st .sequence) (factsOf (s .batching .mode) (st .setpoints) x))
+    landedOf s st x (advanceOf (s .batching) (st .setpoints) (st .sequence) (factsOf (s .batching .mode) (st .setpoints) x))
 
 -- steps 5 and 6; "Step 6 is passed over in a tick with an accepted start, or a stop.", and with an accepted discharge
 unfoldable pub endedOf : Settings → Settled → Weights → State

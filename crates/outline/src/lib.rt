@@ -14,13 +14,14 @@ ghost use Rattle.outline.specs.WeightFigures.{Tracked};
 ghost use Rattle.outline.specs.OutputFigures.{Displayed};
 ghost use Rattle.outline.specs.DischargeFigures.{Discharged, Requested};
 ghost use Rattle.outline.specs.RefillFigures.{Refills};
+ghost use Rattle.outline.specs.WaitingFigures.{Waited};
 ghost use Rattle.outline.specs.Owed.{OpeningLaw, RawLaw, SetpointLaw, TimedLaw};
 ghost use Rattle.outline.specs.AnalogOwed.{ScaleLaw, AnalogLaws};
 ghost use Rattle.outline.specs.EveryLine.{ReplyBounded, BytesStay, AnsweredInOrder, RefusedLines, ReadBackOnLine, GatesShutOnLine};
 ghost use Rattle.outline.specs.EveryLine.{TicketOnLine, NeverTogetherOnLine};
 ghost use Rattle.outline.specs.StaysTrue.{Balance, SumsOfHistory, NothingElse, ZeroInForce, TotalOfBatches, GatesShut, InRange};
 ghost use Rattle.outline.specs.StaysTrue.{Refusals, ReadBack, Ticket, BlocksAreRuns, LinesAreRuns, LogsAreRuns, NeverTogether};
-ghost use Rattle.outline.specs.StaysTrue.{DischargeIsNoBatch, FromRange};
+ghost use Rattle.outline.specs.StaysTrue.{DischargeIsNoBatch, FromRange, WaitingOfWrites, InUseStays, LatestOfWrites};
 
 // The figures of the outline and the laws that the definitions owe. It does nothing: it stands here so that the check's list names
 // them, and misses them if a proof goes.
@@ -51,6 +52,7 @@ pub fn paper_holds()
     ensures discharged { λ r. ⌜ Discharged ⌝ }
     ensures requested { λ r. ⌜ Requested ⌝ }
     ensures refills { λ r. ⌜ Refills ⌝ }
+    ensures waited { λ r. ⌜ Waited ⌝ }
     ensures opening { λ r. ⌜ OpeningLaw ⌝ }
     ensures raw { λ r. ⌜ RawLaw ⌝ }
     ensures setpoints { λ r. ⌜ SetpointLaw ⌝ }
@@ -78,6 +80,9 @@ pub fn every_run()
     ensures apart { λ r. ⌜ NeverTogether ⌝ }
     ensures discharge { λ r. ⌜ DischargeIsNoBatch ⌝ }
     ensures from_range { λ r. ⌜ FromRange ⌝ }
+    ensures waiting { λ r. ⌜ WaitingOfWrites ⌝ }
+    ensures in_use { λ r. ⌜ InUseStays ⌝ }
+    ensures latest { λ r. ⌜ LatestOfWrites ⌝ }
 {}
 
 // What holds of every tick with a line, for whatever settings and state or for every run. It does nothing, and stands here as

@@ -28,6 +28,8 @@ use types::stages::SequenceError;
 use types::stages::Setpoints;
 use types::stages::Stage;
 use types::stages::Totals;
+use types::stages::Waiting;
+use types::stages::Write;
 use types::weight::Weighing;
 use whole::wide;
 
@@ -193,8 +195,7 @@ fn put_next(out: &mut [u8], at: usize, n: u32) -> usize {
     put_number(out, at, n as u64)
 }
 
-fn put_setpoints(out: &mut [u8], at: usize, p: Setpoints) -> usize {
-    let at = put(out, at, b" setpoints=");
+fn put_points(out: &mut [u8], at: usize, p: Setpoints) -> usize {
     let at = put_number(out, at, p.target as u64);
     let at = put_next(out, at, p.fall);
     let at = put_next(out, at, p.preliminary);
@@ -204,11 +205,23 @@ fn put_setpoints(out: &mut [u8], at: usize, p: Setpoints) -> usize {
     put_next(out, at, p.near)
 }
 
+// Those in use, then those waiting: a dash where there are none.
+fn put_setpoints(out: &mut [u8], at: usize, p: Setpoints, w: Waiting) -> usize {
+    let write = w.write;
+    let at = put(out, at, b" setpoints=");
+    let at = put_points(out, at, p);
+    let at = put(out, at, b" waiting=");
+    match write {
+        Write::Nothing => return put_byte(out, at, DASH),
+        Write::Points(n) => return put_points(out, at, n),
+    }
+}
+
 fn put_state(out: &mut [u8], at: usize, st: State) -> usize {
     let at = put_weighing(out, at, st.weighing);
     let at = put_book(out, at, st.book);
     let at = put_totals(out, at, st.totals);
-    let at = put_setpoints(out, at, st.setpoints);
+    let at = put_setpoints(out, at, st.setpoints, st.waiting);
     put_byte(out, at, LF)
 }
 

@@ -5,6 +5,7 @@ ghost use Rattle.outline.specs.Replies.{wordRequest, requestOf, requestReply, w
 use crate::shown::shown_of;
 use commands::letters::SET_LETTERS;
 use commands::letters::letters_for;
+use setpoints::waiting::latest;
 use types::lines::Command;
 use types::lines::LineAnswer;
 use types::lines::Reply;
@@ -72,8 +73,8 @@ fn word_reply(w: Word, st: State, x: Reading, o: Outcome) -> Reply
         }
         Word::ReadTotal => Reply::Total(st.totals.total, st.totals.count),
         Word::ReadSetpoints => {
-            let setpoints = st.setpoints;
-            Reply::Points(setpoints)
+            let points = latest(st.setpoints, st.waiting);
+            Reply::Points(points)
         }
         _ => request_reply(letters_for(w), o),
     }

@@ -116,7 +116,7 @@ pub fn ruling(range: Range, mode: Mode, q: Sequence, t: Totals, x: Weights, r: R
         Request::TareClear => return idle_ruling(q, Outcome::Done),
         Request::Start => return fit_ruling(x, idle_ruling(q, Outcome::Done)),
         Request::Stop => return Outcome::Done,
-        Request::Set(p) => return idle_ruling(q, set_ruling(mode, p)),
+        Request::Set(p) => return set_ruling(mode, p),
         Request::TotalClear => return Outcome::Done,
         Request::Undo => return undo_ruling(t),
         Request::ShowGross => return Outcome::Done,

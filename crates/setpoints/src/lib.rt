@@ -5,6 +5,7 @@ use types::settings::Mode;
 use types::stages::Setpoints;
 
 pub mod levels;
+pub mod waiting;
 
 // Each of the seven, in display digits.
 const SETPOINT_LIMIT: u32 = 999_999;

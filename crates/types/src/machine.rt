@@ -11,6 +11,7 @@ use crate::stages::SequenceError;
 use crate::stages::Setpoints;
 use crate::stages::Stage;
 use crate::stages::Totals;
+use crate::stages::Waiting;
 use crate::weight::Panel;
 use crate::weight::Stability;
 use crate::weight::Weighing;
@@ -20,7 +21,9 @@ pub struct State {
     pub stability: Stability,
     pub weighing: Weighing,
     pub panel: Panel,
+    // in use
     pub setpoints: Setpoints,
+    pub waiting: Waiting,
     pub sequence: Sequence,
     pub totals: Totals,
 }

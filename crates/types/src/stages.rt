@@ -11,6 +11,17 @@ pub struct Setpoints {
     pub near: u32,
 }
 
+// Setpoints that were written, or none.
+pub enum Write {
+    Nothing,
+    Points(Setpoints),
+}
+
+// Request A5: the setpoints that were written while a batch or a discharge ran. They come into use when its stage is 00 again.
+pub struct Waiting {
+    pub write: Write,
+}
+
 // Stages 00, 03 to 11 of a batch, and 14 to 16 of a discharge. A timed stage holds 0 on entering, and one more after each tick that it
 // stays; the paper's number of the stage says nothing of it.
 pub enum Stage {

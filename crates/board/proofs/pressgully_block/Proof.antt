@@ -5,7 +5,7 @@ use borrow.Author.Tests.{not-true, not-false}
 use Rattle.images.specs.GivenImage.{givenIn}
 use Rattle.images.proofs.Buffers.{possible-here}
 use Rattle.images.specs.StateImage.{imageOf}
-use Rattle.board.proofs.Cases.{made-of, first-given, first-state, by-bytes, by-ranges, unrefused, both-settings, both-good, state-held, same-block, block-kept, block-done}
+use Rattle.board.proofs.Cases.{made-of, first-given, first-image, by-bytes, by-ranges, unrefused, both-settings, both-good, state-held, same-block, block-kept, block-done}
 use Rattle.outline.specs.Numbers.{blockNumber}
 use Rattle.board.specs.Board.{blockBy}
 use borrow.Author.Needs.{needs}
@@ -39,7 +39,7 @@ unfolding givenIn
 returns-2 c =
     let a = c .before .before .before .before .before .before .before .before .args in
     let w = sym (c .before .before .before .before .judged .ensures) ∙ c .before .before .before .if1 .left in
-    let p = sym (c .before .is-possible .ensures ∙ possible-here _ _ (first-given (a .settings .now) (a .state .now) w) (first-state (a .settings .now) (a .state .now) w)) ∙ not-true _ (c .if2 .taken) in
+    let p = sym (c .before .is-possible .ensures ∙ possible-here _ _ (first-given (a .settings .now) (a .state .now) w) (first-image (a .settings .now) (a .state .now) w)) ∙ not-true _ (c .if2 .taken) in
     let r = block-kept (a .settings .now) (a .state .now) (a .counts .now) (a .contact) 21 (by-ranges (a .settings .now) (a .state .now) w p) (λ k. absurd (omega arith)) in
     r
 
@@ -58,7 +58,7 @@ returns-3 c =
     let a = c .before .before .before .before .before .before .before .before .before .before .before .args in
     let w = sym (c .before .before .before .before .before .before .before .judged .ensures) ∙ c .before .before .before .before .before .before .if1 .left in
     let g = first-given (a .settings .now) (a .state .now) w in
-    let p = sym (c .before .before .before .before .is-possible .ensures ∙ possible-here _ _ g (first-state (a .settings .now) (a .state .now) w)) ∙ not-false _ (c .before .before .before .if2 .left) in
+    let p = sym (c .before .before .before .before .is-possible .ensures ∙ possible-here _ _ g (first-image (a .settings .now) (a .state .now) w)) ∙ not-false _ (c .before .before .before .if2 .left) in
     let o = sym (c .before .before .opened .ensures g) ∙ c .enum-told .given .1 in
     let r = block-kept (a .settings .now) (a .state .now) (a .counts .now) (a .contact) 10 (both-settings _ _ (unrefused (a .settings .now) (a .state .now) w p) o) (λ k. absurd (omega arith)) in
     r
@@ -79,7 +79,7 @@ returns-4 c =
     let a = s .args in
     let w = sym (c .before .before .before .before .before .before .before .before .before .before .before .before .judged .ensures) ∙ c .before .before .before .before .before .before .before .before .before .before .before .if1 .left in
     let g = first-given (a .settings .now) (a .state .now) w in
-    let p = sym (c .before .before .before .before .before .before .before .before .before .is-possible .ensures ∙ possible-here _ _ g (first-state (a .settings .now) (a .state .now) w)) ∙ not-false _ (c .before .before .before .before .before .before .before .before .if2 .left) in
+    let p = sym (c .before .before .before .before .before .before .before .before .before .is-possible .ensures ∙ possible-here _ _ g (first-image (a .settings .now) (a .state .now) w)) ∙ not-false _ (c .before .before .before .before .before .before .before .before .if2 .left) in
     let u = unrefused (a .settings .now) (a .state .now) w p in
     let o = sym (c .before .before .before .before .before .before .before .opened .ensures g) ∙ c .before .before .before .before .before .s .given .1 in
     let h = state-held (a .settings .now) (a .state .now) (λ i. c .before .before .before .before .before .before .before .before .before .before .before .before .before .before .slice-known .given i .fits) u in

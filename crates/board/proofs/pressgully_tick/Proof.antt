@@ -5,7 +5,7 @@ use borrow.Author.Tests.{not-true, not-false}
 use Rattle.images.specs.GivenImage.{givenIn}
 use Rattle.images.proofs.Buffers.{possible-here}
 use Rattle.images.specs.StateImage.{imageOf}
-use Rattle.board.proofs.Cases.{made-of, first-given, first-state, by-bytes, by-ranges, unrefused, both-settings, both-good, state-held, same-input, same-tick, same-told, tick-kept, tick-done}
+use Rattle.board.proofs.Cases.{made-of, first-given, first-image, by-bytes, by-ranges, unrefused, both-settings, both-good, state-held, same-input, same-tick, same-told, tick-kept, tick-done}
 use Rattle.whole.specs.Bits.{arg}
 use Rattle.board.specs.AnswerImage.{answerBuffer}
 use Rattle.board.specs.Board.{ifRoom, tickBy}
@@ -40,7 +40,7 @@ unfolding givenIn
 returns-2 c =
     let a = c .before .before .before .before .before .before .before .before .before .before .args in
     let w = sym (c .before .before .before .before .judged .ensures) ∙ c .before .before .before .if1 .left in
-    let p = sym (c .before .is-possible .ensures ∙ possible-here _ _ (first-given (a .settings .now) (a .state .now) w) (first-state (a .settings .now) (a .state .now) w)) ∙ not-true _ (c .if2 .taken) in
+    let p = sym (c .before .is-possible .ensures ∙ possible-here _ _ (first-given (a .settings .now) (a .state .now) w) (first-image (a .settings .now) (a .state .now) w)) ∙ not-true _ (c .if2 .taken) in
     let r = tick-kept (a .settings .now) (a .state .now) (a .count) (a .contact) (a .request) (a .points .now) (a .answer .now) 21 (by-ranges (a .settings .now) (a .state .now) w p) (λ k. absurd (omega arith)) in
     (r .0, (r .1, r .2))
 
@@ -59,7 +59,7 @@ returns-3 c =
     let a = c .before .before .before .before .before .before .before .before .before .before .before .before .before .args in
     let w = sym (c .before .before .before .before .before .before .before .judged .ensures) ∙ c .before .before .before .before .before .before .if1 .left in
     let g = first-given (a .settings .now) (a .state .now) w in
-    let p = sym (c .before .before .before .before .is-possible .ensures ∙ possible-here _ _ g (first-state (a .settings .now) (a .state .now) w)) ∙ not-false _ (c .before .before .before .if2 .left) in
+    let p = sym (c .before .before .before .before .is-possible .ensures ∙ possible-here _ _ g (first-image (a .settings .now) (a .state .now) w)) ∙ not-false _ (c .before .before .before .if2 .left) in
     let o = sym (c .before .before .opened .ensures g) ∙ c .enum-told .given .1 in
     let r = tick-kept (a .settings .now) (a .state .now) (a .count) (a .contact) (a .request) (a .points .now) (a .answer .now) 10 (both-settings _ _ (unrefused (a .settings .now) (a .state .now) w p) o) (λ k. absurd (omega arith)) in
     (r .0, (r .1, r .2))
@@ -89,7 +89,7 @@ returns-4 c =
     let a = s .args in
     let w = sym (c .before .before .before .before .before .before .before .before .before .before .before .before .before .before .before .before .before .judged .ensures) ∙ c .before .before .before .before .before .before .before .before .before .before .before .before .before .before .before .before .if1 .left in
     let g = first-given (a .settings .now) (a .state .now) w in
-    let p = sym (c .before .before .before .before .before .before .before .before .before .before .before .before .before .before .is-possible .ensures ∙ possible-here _ _ g (first-state (a .settings .now) (a .state .now) w)) ∙ not-false _ (c .before .before .before .before .before .before .before .before .before .before .before .before .before .if2 .left) in
+    let p = sym (c .before .before .before .before .before .before .before .before .before .before .before .before .before .before .is-possible .ensures ∙ possible-here _ _ g (first-image (a .settings .now) (a .state .now) w)) ∙ not-false _ (c .before .before .before .before .before .before .before .before .before .before .before .before .before .if2 .left) in
     let u = unrefused (a .settings .now) (a .state .now) w p in
     let o = sym (c .before .before .before .before .before .before .before .before .before .before .before .before .opened .ensures g) ∙ c .before .before .before .before .before .before .before .before .before .before .s .given .1 in
     let h = state-held (a .settings .now) (a .state .now) (λ i. c .before .before .before .before .before .before .before .before .before .before .before .before .before .before .before .before .before .before .before .before .before .slice-known .given i .fits) u in

@@ -8,42 +8,44 @@ use Rattle.types.specs.declared.machine.Input.{Input}
 use Rattle.outline.specs.Numbers.{toldNumber}
 use Rattle.images.specs.Holds.{Holds}
 use Rattle.board.specs.AnswerImage.{answerLength}
+use Rattle.types.specs.declared.daybook.Closed.{Closed}
+use Rattle.board.specs.InPlace.{closedPut}
 use Rattle.board.specs.Board.{inputOf}
 use Rattle.board.proofs.Cases.{is-room}
-use Rattle.board.proofs.Held.{keyed-as, held-on}
-use Rattle.board.proofs.InOrder.{leaves, unasked-leaves}
+use Rattle.board.proofs.Held.{held-as, keyed-as, held-on}
+use Rattle.board.proofs.InOrder.{leaves, unasked-leaves, batch-granted, batch-closed}
 use Rattle.board.proofs.Replied.{Lined, lined, lined-short}
 use borrow.Author.Needs.{needs}
 use Rattle.board.proofs.run_line.Statement.{statement}
 use Rattle.board.proofs.run_line.Tie as tie
 
 -- ---- the reply fits
-abbrev start : tie.After-slice-known10 → tie.Start
-start c = c .before .before .before .before .before .before .before .before .before .before .before .before .before .before .before .before .before .before .before .before .before .before .before .before .before .before .before .before .before .before .before .before .before .before .before .before .before .before .before .before .before .before .before .before .before .before .before .before
+abbrev start : tie.After-slice-known11 → tie.Start
+start c = c .before .before .before .before .before .before .before .before .before .before .before .before .before .before .before .before .before .before .before .before .before .before .before .before .before .before .before .before .before .before .before .before .before .before .before .before .before .before .before .before .before .before .before .before .before .before .before .before .before .before .before .before
 
-fits : (c : tie.After-slice-known10) (st : State) → Holds (start c .args .state .now) st
-    → Lined (start c .args .s) st (start c .args .count) (start c .args .contact) (start c .args .receive .now) (start c .args .reply .now) (c .before .before .before .before .before .told-number .result) (start c .args .answer .now) (c .before .before .before .before .before .before .before .before .before .step .last .1 .1 .1 .0) (c .before .before .before .before .before .before .before .before .before .before .before .before .before .before .before .before .before .before .before .before .before .before .before .before .before .before .before .before .before .before .before .before .reply .last .1 .1 .1 .1 .1 .0) (c .before .before .answer2 .last .1 .1 .1 .1 .1 .1 .0)
+fits : (c : tie.After-slice-known11) (st : State) → Holds (start c .args .state .now) st
+    → Lined (start c .args .s) st (start c .args .count) (start c .args .contact) (start c .args .receive .now) (start c .args .reply .now) (c .before .before .before .before .before .told-number .result) (start c .args .answer .now) (c .before .before .before .before .before .before .before .before .before .step .last .1 .1 .1 .0) (c .before .before .before .before .before .before .before .before .before .before .before .before .before .before .before .before .before .before .before .before .before .before .before .before .before .before .before .before .before .before .before .before .before .before .before .before .reply .last .1 .1 .1 .1 .1 .0) (c .before .before .answer2 .last .1 .1 .1 .1 .1 .1 .0)
 fits c st h =
     let a = start c .args in
-    let e = simp (toZ-ofZ (start c .fits .count)) at (c .before .before .before .before .before .before .before .before .before .before .before .before .before .before .before .before .before .before .before .before .before .before .before .before .before .before .before .before .before .before .before .before .before .before .before .before .before .before .before .enter .ensures) in
+    let e = simp (toZ-ofZ (start c .fits .count)) at (c .before .before .before .before .before .before .before .before .before .before .before .before .before .before .before .before .before .before .before .before .before .before .before .before .before .before .before .before .before .before .before .before .before .before .before .before .before .before .before .before .before .before .before .enter .ensures) in
     let h1 = e .0 st h in
-    let h2 = c .before .before .before .before .before .before .before .before .before .before .before .before .before .before .before .before .before .before .before .before .before .before .before .settle .ensures .0 _ h1 in
+    let h2 = held-as (batch-granted _ _ _) (c .before .before .before .before .before .before .before .before .before .before .before .before .before .before .before .before .before .before .before .before .before .settle-batch .ensures _ (c .before .before .before .before .before .before .before .before .before .before .before .before .before .before .before .before .before .before .before .before .before .before .before .before .before .before .before .settle .ensures .0 _ h1)) in
     let h3 = keyed-as _ _ _ (c .before .before .before .before .before .before .before .before .before .before .before .before .before .before .before .before .is-keyed .ensures) (c .before .before .before .before .before .before .before .before .before .before .before .before .before .before .track .ensures _ h2) in
     let h4 = held-on _ _ _ (c .before .before .before .before .before .before .before .before .before .before .before .is-held .ensures) (c .before .before .before .before .before .before .before .before .before .step .ensures _ h3) in
-    let i : Input = inputOf (a .count) (a .contact) (c .before .before .before .before .before .before .before .before .before .before .before .before .before .before .before .before .before .before .before .before .before .before .before .before .before .before .before .before .before .before .before .before .before .before .before .before .before .before .before .before .before .request-of .result) in
-    let r = leaves (a .s) st i (c .before .before .before .before .before .before .before .before .before .before .before .before .before .before .before .before .before .before .before .before .before .before .before .before .before .before .before .before .before .before .before .before .before .before .before .before .before .before .before .enter .result) (c .before .before .before .before .before .before .before .before .before .before .before .before .before .before .before .before .before .before .before .before .before .before .before .before .before .before .before .before .before .before .before .before .before .before .before .ruled .result) (c .before .before .before .before .before .before .before .before .before .before .before .before .before .before .before .before .before .before .before .before .before .before .before .before .before .before .granted .result) (c .before .before .before .before .before .before .before .before .before .before .before .before .before .before .before .before .before .again .result) (c .before .before .before .before .before .told-number .result) (c .before .before .before .before .before .before .before .before .before .before .before .before .before .before .before .before .before .before .before .before .before .before .before .before .before .before .before .before .length .given .0 .0)
-    (a .answer .now) (c .before .before .before .before .before .before .before .before .before .step .last .1 .1 .1 .0) (c .before .before .before .before .before .before .before .before .before .before .before .before .before .before .before .before .before .before .before .before .before .before .before .settle .last .1 .1 .1 .0) (c .before .before .answer2 .last .1 .1 .1 .1 .1 .1 .0)
-    (e .1 st h) (c .before .before .before .before .before .before .before .before .before .before .before .before .before .before .before .before .before .before .before .before .before .before .before .before .before .before .before .before .before .before .before .before .before .before .before .ruled .ensures _ h1) (c .before .before .before .before .before .before .before .before .before .before .before .before .before .before .before .before .before .before .before .before .before .before .before .before .before .before .granted .ensures) (c .before .before .before .before .before .before .before .before .before .before .before .before .before .before .before .before .before .again .ensures _ h2) h4 (c .before .before .before .before .before .before .before .before .before .before .before .before .before .before .before .before .before .before .before .before .before .before .before .settle .ensures .1 _ h1) (c .before .before .answer2 .ensures _ h4) in
-    lined (a .s) st (a .count) (a .contact) (a .receive .now) (a .reply .now) (c .before .before .before .before .before .before .before .before .before .before .before .before .before .before .before .before .before .before .before .before .before .before .before .before .before .before .before .before .before .before .before .before .before .before .before .before .before .before .before .before .before .before .command-of .result) (c .before .before .before .before .before .before .before .before .before .before .before .before .before .before .before .before .before .before .before .before .before .before .before .before .before .before .before .before .before .before .before .before .before .before .before .before .before .before .before .before .before .request-of .result) (c .before .before .before .before .before .before .before .before .before .before .before .before .before .before .before .before .before .before .before .before .before .before .before .before .before .before .before .before .before .before .before .before .before .before .before .before .before .before .before .enter .result) (c .before .before .before .before .before .before .before .before .before .before .before .before .before .before .before .before .before .before .before .before .before .before .before .before .before .before .before .before .before .before .before .before .before .before .before .ruled .result) (c .before .before .before .before .before .before .before .before .before .before .before .before .before .before .before .before .before .before .before .before .before .before .before .before .before .before .before .before .before .before .before .before .reply .result) (c .before .before .before .before .before .before .before .before .before .before .before .before .before .before .before .before .before .before .before .before .before .before .before .before .before .before .before .before .before .before .before .before .reply .last .1 .1 .1 .1 .1 .0)
-    (c .before .before .before .before .before .before .before .before .before .before .before .before .before .before .before .before .before .before .before .before .before .before .before .before .before .before .before .before .before .before .before .before .before .before .before .before .before .before .before .before .before .before .command-of .ensures) (c .before .before .before .before .before .before .before .before .before .before .before .before .before .before .before .before .before .before .before .before .before .before .before .before .before .before .before .before .before .before .before .before .before .before .before .before .before .before .before .before .before .request-of .ensures) (e .1 st h) (c .before .before .before .before .before .before .before .before .before .before .before .before .before .before .before .before .before .before .before .before .before .before .before .before .before .before .before .before .before .before .before .before .before .before .before .ruled .ensures _ h1) (c .before .before .before .before .before .before .before .before .before .before .before .before .before .before .before .before .before .before .before .before .before .before .before .before .before .before .before .before .before .before .before .before .reply .ensures .0 _ h1) (c .before .before .before .before .before .before .before .before .before .before .before .before .before .before .before .before .before .before .before .before .before .before .before .before .before .before .before .before .before .before .before .before .reply .ensures .1 _ h1)
+    let i : Input = inputOf (a .count) (a .contact) (c .before .before .before .before .before .before .before .before .before .before .before .before .before .before .before .before .before .before .before .before .before .before .before .before .before .before .before .before .before .before .before .before .before .before .before .before .before .before .before .before .before .before .before .before .before .request-of .result) in
+    let r = leaves (a .s) st i (c .before .before .before .before .before .before .before .before .before .before .before .before .before .before .before .before .before .before .before .before .before .before .before .before .before .before .before .before .before .before .before .before .before .before .before .before .before .before .before .before .before .before .before .enter .result) (c .before .before .before .before .before .before .before .before .before .before .before .before .before .before .before .before .before .before .before .before .before .before .before .before .before .before .before .before .before .before .before .before .before .before .before .before .before .before .before .ruled .result) (c .before .before .before .before .before .before .before .before .before .before .before .before .before .before .before .before .before .before .before .before .before .before .before .before .before .before .before .before .before .before .granted .result) (c .before .before .before .before .before .before .before .before .before .before .before .before .before .before .before .before .before .again .result) (c .before .before .before .before .before .told-number .result) (c .before .before .before .before .before .before .before .before .before .before .before .before .before .before .before .before .before .before .before .before .before .before .before .before .before .before .before .before .before .before .before .before .length .given .0 .0)
+    (a .answer .now) (c .before .before .before .before .before .before .before .before .before .step .last .1 .1 .1 .0) (c .before .before .before .before .before .before .before .before .before .before .before .before .before .before .before .before .before .before .before .before .before .before .before .before .before .before .before .settle .last .1 .1 .1 .0) (c .before .before .answer2 .last .1 .1 .1 .1 .1 .1 .0)
+    (e .1 st h) (c .before .before .before .before .before .before .before .before .before .before .before .before .before .before .before .before .before .before .before .before .before .before .before .before .before .before .before .before .before .before .before .before .before .before .before .before .before .before .before .ruled .ensures _ h1) (c .before .before .before .before .before .before .before .before .before .before .before .before .before .before .before .before .before .before .before .before .before .before .before .before .before .before .before .before .before .before .granted .ensures) (c .before .before .before .before .before .before .before .before .before .before .before .before .before .before .before .before .before .again .ensures _ h2) h4 (c .before .before .before .before .before .before .before .before .before .before .before .before .before .before .before .before .before .before .before .before .before .before .before .before .before .before .before .settle .ensures .1 _ h1 ∙ ap (λ (d : Closed). closedPut d (a .answer .now)) (batch-closed _ _ _)) (c .before .before .answer2 .ensures _ h4) in
+    lined (a .s) st (a .count) (a .contact) (a .receive .now) (a .reply .now) (c .before .before .before .before .before .before .before .before .before .before .before .before .before .before .before .before .before .before .before .before .before .before .before .before .before .before .before .before .before .before .before .before .before .before .before .before .before .before .before .before .before .before .before .before .before .before .command-of .result) (c .before .before .before .before .before .before .before .before .before .before .before .before .before .before .before .before .before .before .before .before .before .before .before .before .before .before .before .before .before .before .before .before .before .before .before .before .before .before .before .before .before .before .before .before .before .request-of .result) (c .before .before .before .before .before .before .before .before .before .before .before .before .before .before .before .before .before .before .before .before .before .before .before .before .before .before .before .before .before .before .before .before .before .before .before .before .before .before .before .before .before .before .before .enter .result) (c .before .before .before .before .before .before .before .before .before .before .before .before .before .before .before .before .before .before .before .before .before .before .before .before .before .before .before .before .before .before .before .before .before .before .before .before .before .before .before .ruled .result) (c .before .before .before .before .before .before .before .before .before .before .before .before .before .before .before .before .before .before .before .before .before .before .before .before .before .before .before .before .before .before .before .before .before .before .before .before .reply .result) (c .before .before .before .before .before .before .before .before .before .before .before .before .before .before .before .before .before .before .before .before .before .before .before .before .before .before .before .before .before .before .before .before .before .before .before .before .reply .last .1 .1 .1 .1 .1 .0)
+    (c .before .before .before .before .before .before .before .before .before .before .before .before .before .before .before .before .before .before .before .before .before .before .before .before .before .before .before .before .before .before .before .before .before .before .before .before .before .before .before .before .before .before .before .before .before .before .command-of .ensures) (c .before .before .before .before .before .before .before .before .before .before .before .before .before .before .before .before .before .before .before .before .before .before .before .before .before .before .before .before .before .before .before .before .before .before .before .before .before .before .before .before .before .before .before .before .before .request-of .ensures) (e .1 st h) (c .before .before .before .before .before .before .before .before .before .before .before .before .before .before .before .before .before .before .before .before .before .before .before .before .before .before .before .before .before .before .before .before .before .before .before .before .before .before .before .ruled .ensures _ h1) (c .before .before .before .before .before .before .before .before .before .before .before .before .before .before .before .before .before .before .before .before .before .before .before .before .before .before .before .before .before .before .before .before .before .before .before .before .reply .ensures .0 _ h1) (c .before .before .before .before .before .before .before .before .before .before .before .before .before .before .before .before .before .before .before .before .before .before .before .before .before .before .before .before .before .before .before .before .before .before .before .before .reply .ensures .1 _ h1)
     (c .before .before .before .before .before .told-number .result) (a .answer .now) (c .before .before .before .before .before .before .before .before .before .step .last .1 .1 .1 .0) (c .before .before .answer2 .last .1 .1 .1 .1 .1 .1 .0)
-    (c .before .before .before .before .before .before .before .before .before .before .before .before .before .before .before .before .before .before .before .before .before .before .before .before .before .before .before .before .length .given .0 .0) (c .before .before .before .before .before .before .before .before .before .before .before .before .before .before .before .before .before .before .before .before .before .before .before .before .before .before .before .before .length .given .1) (c .before .before .before .before .before .told-number .ensures ∙ ap toldNumber (c .before .before .before .before .before .before .told-of .ensures)) r
+    (c .before .before .before .before .before .before .before .before .before .before .before .before .before .before .before .before .before .before .before .before .before .before .before .before .before .before .before .before .before .before .before .before .length .given .0 .0) (c .before .before .before .before .before .before .before .before .before .before .before .before .before .before .before .before .before .before .before .before .before .before .before .before .before .before .before .before .before .before .before .before .length .given .1) (c .before .before .before .before .before .told-number .ensures ∙ ap toldNumber (c .before .before .before .before .before .before .told-of .ensures)) r
 
 -- ---- it does not
-abbrev start2 : tie.After-slice-known14 → tie.Start
+abbrev start2 : tie.After-slice-known15 → tie.Start
 start2 c = c .before .before .before .before .before .before .before .before .before .before .before .before .before .before .before .before .before .before .before .before .before .before .before .before .before .before .before .before .before .before .before .before .before .before .before .before .before
 
-falls-short : (c : tie.After-slice-known14) (st : State) → Holds (start2 c .args .state .now) st
+falls-short : (c : tie.After-slice-known15) (st : State) → Holds (start2 c .args .state .now) st
     → Lined (start2 c .args .s) st (start2 c .args .count) (start2 c .args .contact) (start2 c .args .receive .now) (start2 c .args .reply .now) 14 (start2 c .args .answer .now) (c .before .before .before .before .before .before .before .step2 .last .1 .1 .1 .0) (c .before .before .before .before .before .before .before .before .before .before .before .before .before .before .before .before .before .before .before .before .before .reply .last .1 .1 .1 .1 .1 .0) (c .before .before .answer5 .last .1 .1 .1 .1 .1 .1 .0)
 falls-short c st h =
     let a = start2 c .args in
@@ -88,6 +90,9 @@ granted-requires c κs = search needs
 settle-requires : tie.Need-settle-requires
 settle-requires c κs = search needs
 
+settle-batch-requires : tie.Need-settle-batch-requires
+settle-batch-requires c κs = search needs
+
 again-requires : tie.Need-again-requires
 again-requires c κs = search needs
 
@@ -116,10 +121,10 @@ cast-result : tie.Need-cast-result
 cast-result c = search needs
 
 same-length : tie.Need-same-length
-same-length c = search (needs, c .before .before .before .before .before .before .before .before .before .before .before .before .before .before .before .before .before .before .before .before .before .before .before .before .before .before .before .before .before .before .before .before .reply, c .before .before .before .before .before .before .before .before .before .step, c .before .before .before .before .before .before .before .before .before .before .before .before .before .before .track, c .before .before .before .before .before .before .before .before .before .before .before .before .before .before .before .before .before .before .before .before .before .before .before .settle, c .before .before .before .before .before .before .before .before .before .before .before .before .before .before .before .before .before .before .before .before .before .before .before .before .before .before .before .before .before .before .before .before .before .before .before .before .before .before .before .enter)
+same-length c = search (needs, c .before .before .before .before .before .before .before .before .before .before .before .before .before .before .before .before .before .before .before .before .before .before .before .before .before .before .before .before .before .before .before .before .before .before .before .before .reply, c .before .before .before .before .before .before .before .before .before .step, c .before .before .before .before .before .before .before .before .before .before .before .before .before .before .track, c .before .before .before .before .before .before .before .before .before .before .before .before .before .before .before .before .before .before .before .before .before .settle-batch, c .before .before .before .before .before .before .before .before .before .before .before .before .before .before .before .before .before .before .before .before .before .before .before .before .before .before .before .settle, c .before .before .before .before .before .before .before .before .before .before .before .before .before .before .before .before .before .before .before .before .before .before .before .before .before .before .before .before .before .before .before .before .before .before .before .before .before .before .before .before .before .before .before .enter)
 
 same-length-2 : tie.Need-same-length-2
-same-length-2 c = search (needs, c .before .before .before .before .before .before .before .before .before .step, c .before .before .before .before .before .before .before .before .before .before .before .before .before .before .track, c .before .before .before .before .before .before .before .before .before .before .before .before .before .before .before .before .before .before .before .before .before .before .before .settle, c .before .before .before .before .before .before .before .before .before .before .before .before .before .before .before .before .before .before .before .before .before .before .before .before .before .before .before .before .before .before .before .before .before .before .before .before .before .before .before .enter)
+same-length-2 c = search (needs, c .before .before .before .before .before .before .before .before .before .step, c .before .before .before .before .before .before .before .before .before .before .before .before .before .before .track, c .before .before .before .before .before .before .before .before .before .before .before .before .before .before .before .before .before .before .before .before .before .settle-batch, c .before .before .before .before .before .before .before .before .before .before .before .before .before .before .before .before .before .before .before .before .before .before .before .before .before .before .before .settle, c .before .before .before .before .before .before .before .before .before .before .before .before .before .before .before .before .before .before .before .before .before .before .before .before .before .before .before .before .before .before .before .before .before .before .before .before .before .before .before .before .before .before .before .enter)
 
 same-length-3 : tie.Need-same-length-3
 same-length-3 c = search needs
@@ -127,7 +132,7 @@ same-length-3 c = search needs
 returns-2 : tie.Need-returns-2
 returns-2 c =
     let a = start c .args in
-    let room = c .before .before .before .before .before .before .before .before .before .before .before .before .before .before .before .before .before .before .before .before .before .before .before .before .before .before .before .before .before .before .before .before .before .before .before .before .before .before .before .before .before .before .before .if1 .left in (
+    let room = c .before .before .before .before .before .before .before .before .before .before .before .before .before .before .before .before .before .before .before .before .before .before .before .before .before .before .before .before .before .before .before .before .before .before .before .before .before .before .before .before .before .before .before .before .before .before .before .if1 .left in (
       (λ st h. fits c st h .told ∙ is-room (a .answer .now) _ 14 room),
       (
         (λ st h. fits c st h .next ∙ is-room (a .answer .now) _ (a .state .now) room),
@@ -189,6 +194,7 @@ run-line-spec =
     enum-known-length
     granted-requires
     settle-requires
+    settle-batch-requires
     again-requires
     is-keyed-requires
     track-requires

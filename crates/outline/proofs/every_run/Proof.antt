@@ -5,6 +5,7 @@ use Rattle.outline.proofs.TotalRun.{total-of-batches}
 use Rattle.outline.proofs.GatesRun.{gates-shut}
 use Rattle.outline.proofs.DischargeLaw.{never-together, discharge-is-no-batch}
 use Rattle.outline.proofs.RangeRun.{in-range, from-range}
+use Rattle.outline.proofs.WaitingRun.{waiting-of-writes, in-use-stays, latest-of-writes}
 use Rattle.outline.proofs.RefusalLaw.{refusals}
 use Rattle.outline.proofs.ReadBack.{read-back}
 use Rattle.outline.proofs.TicketLaw.{ticket}
@@ -21,7 +22,7 @@ returns c = (
       nothing-else,
       (
         zero-in-force,
-        (total-of-batches, (gates-shut, (in-range, (refusals, (read-back, (ticket, (blocks-are-runs, (lines-are-runs, (logs-are-runs, (never-together, (discharge-is-no-batch, from-range))))))))))),
+        (total-of-batches, (gates-shut, (in-range, (refusals, (read-back, (ticket, (blocks-are-runs, (lines-are-runs, (logs-are-runs, (never-together, (discharge-is-no-batch, (from-range, (waiting-of-writes, (in-use-stays, latest-of-writes)))))))))))))),
       ),
     ),
   ),

@@ -100,11 +100,8 @@ enum-known-r c = search needs
 set-ruling-requires : tie.Need-set-ruling-requires
 set-ruling-requires c κs = search needs
 
-idle-ruling-requires-3 : tie.Need-idle-ruling-requires-3
-idle-ruling-requires-3 c κs = search needs
-
 returns-7 : tie.Need-returns-7
-returns-7 c = simp (c .idle-ruling3 .ensures, c .before .set-ruling .ensures, c .before .before .before .r .given .1)
+returns-7 c = simp (c .set-ruling .ensures, c .before .before .r .given .1)
 
 enum-told-7 : tie.Need-enum-told-7
 enum-told-7 c = search needs
@@ -148,8 +145,8 @@ enum-told-12 c = search needs
 mode-ruling-requires : tie.Need-mode-ruling-requires
 mode-ruling-requires c κs = search needs
 
-idle-ruling-requires-4 : tie.Need-idle-ruling-requires-4
-idle-ruling-requires-4 c κs = search needs
+idle-ruling-requires-3 : tie.Need-idle-ruling-requires-3
+idle-ruling-requires-3 c κs = search needs
 
 fit-ruling-requires-4 : tie.Need-fit-ruling-requires-4
 fit-ruling-requires-4 c κs = search needs
@@ -158,7 +155,7 @@ returns-13 : tie.Need-returns-13
 returns-13 c =
     simp (
       c .fit-ruling4 .ensures,
-      c .before .idle-ruling4 .ensures,
+      c .before .idle-ruling3 .ensures,
       c .before .before .mode-ruling .ensures,
       c .before .before .before .enum-told12 .given .1,
     )
@@ -190,7 +187,6 @@ ruling-spec =
     returns-6
     enum-known-r
     set-ruling-requires
-    idle-ruling-requires-3
     returns-7
     enum-told-7
     returns-8
@@ -206,6 +202,6 @@ ruling-spec =
     returns-12
     enum-told-12
     mode-ruling-requires
-    idle-ruling-requires-4
+    idle-ruling-requires-3
     fit-ruling-requires-4
     returns-13)

@@ -20,6 +20,9 @@ sequence-at-requires c κs = search needs
 open-book-requires : tie.Need-open-book-requires
 open-book-requires c κs = search needs
 
+none-waiting-requires : tie.Need-none-waiting-requires
+none-waiting-requires c κs = search needs
+
 clear-totals-requires : tie.Need-clear-totals-requires
 clear-totals-requires c κs = search needs
 
@@ -34,10 +37,10 @@ same-length c = search needs
 
 returns : tie.Need-returns
 returns c st h =
-    let a = c .before .before .before .before .before .before .before .before .before .before .before .before .args in
+    let a = c .before .before .before .before .before .before .before .before .before .before .before .before .before .args in
     let e = c .before .before .before .before .outputs .ensures
-    ∙ shown-by _ _ _ _ _ st (read-part (λ (t : State). t .panel) (c .before .before .before .before .before .before .before .before .before .panel-at .ensures) h) (read-part (λ (t : State). t .setpoints) (c .before .before .before .before .before .before .before .before .setpoints-at .ensures) h)
-    (read-part (λ (t : State). t .sequence) (c .before .before .before .before .before .before .before .sequence-at .ensures) h) in
+    ∙ shown-by _ _ _ _ _ st (read-part (λ (t : State). t .panel) (c .before .before .before .before .before .before .before .before .before .before .panel-at .ensures) h) (read-part (λ (t : State). t .setpoints) (c .before .before .before .before .before .before .before .before .before .setpoints-at .ensures) h)
+    (read-part (λ (t : State). t .sequence) (c .before .before .before .before .before .before .before .before .sequence-at .ensures) h) in
     c .before .before .put-outputs .ensures ∙ ap (λ (o : Answer). outputsPut (a .told) (a .length) o (a .answer .now)) e
 
 pub answer-spec : {M : Type 1} → statement M
@@ -48,6 +51,7 @@ answer-spec =
     setpoints-at-requires
     sequence-at-requires
     open-book-requires
+    none-waiting-requires
     clear-totals-requires
     outputs-requires
     put-outputs-requires

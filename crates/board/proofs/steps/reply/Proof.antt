@@ -1,4 +1,4 @@
--- The reply that is due asks for three parts of the state, which are those that the buffer holds.
+-- The reply that is due asks for four parts of the state, which are those that the buffer holds.
 use mathlib.Core.Path.{_≡_, _∙_, ap}
 use Rattle.types.specs.declared.machine.State.{State}
 use Rattle.types.specs.declared.machine.Reading.{Reading}
@@ -7,21 +7,22 @@ use Rattle.outline.specs.Tick.{readingOf}
 use Rattle.outline.specs.Replies.{replyText, replyDue, writtenOf}
 use Rattle.replies.specs.Wrote.{wroteOf}
 use Rattle.images.specs.Holds.{Holds}
-use Rattle.board.proofs.Held.{read-part}
+use Rattle.board.proofs.Held.{read-part, read-waiting}
 use Rattle.board.proofs.Replied.{due-shown}
 use borrow.Author.Needs.{needs}
 use Rattle.board.proofs.steps.reply.Statement.{statement}
 use Rattle.board.proofs.steps.reply.Tie as tie
 
 abbrev start : tie.After-slice-known2 → tie.Start
-start c = c .before .before .before .before .before .before .before .before .before .before .before .before .before
+start c = c .before .before .before .before .before .before .before .before .before .before .before .before .before .before
 
 due : (c : tie.After-slice-known2) (st : State) → Holds (start c .args .state .now) st → c .before .before .before .before .reply-due .result ≡ replyDue (start c .args .command) st (readingOf (start c .args .x)) (start c .args .outcome)
 due c st h =
     let a = start c .args in
     c .before .before .before .before .reply-due .ensures
-    ∙ due-shown _ st _ (a .outcome) (read-part (λ (t : State). t .panel) (c .before .before .before .before .before .before .before .before .before .before .panel-at .ensures) h) (read-part (λ (t : State). t .totals) (c .before .before .before .before .before .before .before .before .totals-at .ensures) h)
-    (read-part (λ (t : State). t .setpoints) (c .before .before .before .before .before .before .before .before .before .setpoints-at .ensures) h) (a .command)
+    ∙ due-shown _ st _ (a .outcome) (read-part (λ (t : State). t .panel) (c .before .before .before .before .before .before .before .before .before .before .before .panel-at .ensures) h) (read-part (λ (t : State). t .totals) (c .before .before .before .before .before .before .before .before .totals-at .ensures) h)
+    (read-part (λ (t : State). t .setpoints) (c .before .before .before .before .before .before .before .before .before .before .setpoints-at .ensures) h)
+    (read-waiting (c .before .before .before .before .before .before .before .before .before .waiting-at .ensures) h) (a .command)
     ∙ ap (λ (x : Reading). replyDue (a .command) st x (a .outcome)) (c .before .before .before .before .before .reading .ensures)
 
 panel-at-requires : tie.Need-panel-at-requires
@@ -29,6 +30,9 @@ panel-at-requires c κs = search needs
 
 setpoints-at-requires : tie.Need-setpoints-at-requires
 setpoints-at-requires c κs = search needs
+
+waiting-at-requires : tie.Need-waiting-at-requires
+waiting-at-requires c κs = search needs
 
 totals-at-requires : tie.Need-totals-at-requires
 totals-at-requires c κs = search needs
@@ -64,6 +68,7 @@ reply-spec =
     (tie.spec
     panel-at-requires
     setpoints-at-requires
+    waiting-at-requires
     totals-at-requires
     open-book-requires
     open-sequence-requires

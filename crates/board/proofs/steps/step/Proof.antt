@@ -36,7 +36,8 @@ same-length-2 c = search needs
 returns-3 : tie.Need-returns-3
 returns-3 c st h =
     let q = read-part (λ (t : State). t .sequence) (c .before .before .before .before .before .before .sequence-at .ensures) h in
-    held-as (stepped-on _ st _ _ _ (c .before .before .before .before .before .before .before .before .if1 .left) refl) (c .before .before .go-on .ensures st h q)
+    let runs = sym (c .before .before .before .before .before .is-idle .ensures ∙ (λ i. idleOf (q i .stage))) ∙ c .before .before .before .before .if2 .left in
+    held-as (stepped-on _ st _ _ _ (c .before .before .before .before .before .before .before .before .if1 .left) refl) (c .before .before .go-on .ensures st h q runs)
 
 pub step-spec : {M : Type 1} → statement M
 step-spec =

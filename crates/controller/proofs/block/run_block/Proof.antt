@@ -2,13 +2,13 @@
 -- meet, each is a case of its definition. The measure is what is left of the counts.
 use mathlib.Core.Path.{_≡_, refl, sym, ap, _∙_}
 use mathlib.Core.Logic.{⊎-elim}
-use mathlib.Core.Bool.{Bool}
+use mathlib.Core.Bool.{Bool, false}
 use mathlib.Core.List.{List, foldl, foldl-append}
 use Prim.Native.Nat.{ℕ, _+_, _-_, _<_, _≤_}
 use native.Mathlib.Numerals.{add-one}
 use native.Mathlib.Omega.{arith}
 use borrow.Author.Needs.{needs}
-use borrow.Author.Tests.{lt-leb, le-leb, not-false}
+use borrow.Author.Tests.{lt-leb, le-leb, not-true, not-false}
 use lib.IntN.{ℤ, pos}
 use lib.ListN.{length, take, getD}
 use lib.Seq.{take-all, take-suc}
@@ -22,11 +22,14 @@ use Rattle.types.specs.declared.machine.Blocked.{Blocked}
 use Rattle.whole.specs.Bits.{got, be}
 use Rattle.whole.specs.Machine.{sfits-of}
 use Rattle.outline.specs.Limits.{blockLimit}
+use Rattle.outline.specs.Setpoints.{latestOf}
+use Rattle.outline.specs.Stages.{idleOf}
+use Rattle.outline.specs.Parts.{withSetpoints, withWaiting}
 use Rattle.outline.specs.Tick.{steppedOf, countIn, blockOf}
 use Rattle.outline.specs.Numbers.{blockNumber}
 use Rattle.outline.specs.Answers.{blockDue}
 use Rattle.outline.proofs.AnswerLaws.{block-number}
-use Rattle.outline.specs.Steps.{partsOf, Parts, parts-next, step-idle, step-on, step-finished, step-setpoints}
+use Rattle.outline.specs.Steps.{partsOf, Parts, parts-next, step-idle, step-on, step-back, step-finished, step-runs}
 use Rattle.controller.proofs.block.run_block.Statement.{statement}
 use Rattle.controller.proofs.block.run_block.Tie as tie
 
@@ -36,7 +39,8 @@ fold-more f b l i d h = rw (add-one, take-suc l i d h, foldl-append)
 
 abbrev Inv-loop : tie.InvT-loop
 Inv-loop s st₀ counts contact points mode i₀ st i =
-    (i ≤ length counts) × (st ≡ foldl (countIn s contact) st₀ (take i counts)) × (st .setpoints ≡ st₀ .setpoints)
+    (i ≤ length counts) × (st ≡ foldl (countIn s contact) st₀ (take i counts))
+    × (idleOf (st .sequence .stage) ≡ false → st .setpoints ≡ st₀ .setpoints)
 
 abbrev μ-loop : tie.MeasureT-loop
 μ-loop s st₀ counts contact points mode i₀ st i = length counts - i
@@ -53,7 +57,7 @@ returns c =
     numbered (a .s) (a .st) (now (a .counts)) (a .contact) _ (simp (lt-leb (length (now (a .counts))) blockLimit (omega arith)))
 
 loop-holds : tie.Need-loop-holds Inv-loop μ-loop
-loop-holds c = (omega arith, refl, refl)
+loop-holds c = (omega arith, refl, λ e. refl)
 
 mul-count : tie.Need-mul-count Inv-loop μ-loop
 mul-count c = search needs
@@ -88,11 +92,20 @@ is-fit-requires c κs = search needs
 advance-requires : tie.Need-advance-requires Inv-loop μ-loop
 advance-requires c κs = search needs
 
+is-idle-requires-2 : tie.Need-is-idle-requires-2 Inv-loop μ-loop
+is-idle-requires-2 c κs = search needs
+
 booked-sequence-requires : tie.Need-booked-sequence-requires Inv-loop μ-loop
 booked-sequence-requires c κs = search needs
 
 booked-totals-requires : tie.Need-booked-totals-requires Inv-loop μ-loop
 booked-totals-requires c κs = search needs
+
+latest-requires : tie.Need-latest-requires Inv-loop μ-loop
+latest-requires c κs = search needs
+
+none-waiting-requires : tie.Need-none-waiting-requires Inv-loop μ-loop
+none-waiting-requires c κs = search needs
 
 -- the loop's state and place, before this count
 abbrev at : tie.After-tracked Inv-loop μ-loop → tie.At-loop Inv-loop μ-loop
@@ -136,7 +149,7 @@ parts t =
       tracked = t .tracked .ensures;
     }
 
--- step 6, where its ways meet; the setpoints are still those that the block began with
+-- step 6, where its ways meet; outside 00 the setpoints are still those that the block began with
 stepped : (j : tie.Joined2 Inv-loop μ-loop) →
     let t = j .before in
     let w = t .before .before .before in
@@ -145,17 +158,30 @@ stepped : (j : tie.Joined2 Inv-loop μ-loop) →
 stepped j =
     let t = j .before in
     let p = parts t in
-    let same : start t .args .st .setpoints ≡ at t .loop .st .setpoints = sym (at t .loop .inv .2) in
+    let same : idleOf (at t .loop .st .sequence .stage) ≡ false → start t .args .st .setpoints ≡ at t .loop .st .setpoints
+    = λ runs. sym (at t .loop .inv .2 runs) in
     let x = t .before .before .before .weigh .result in
     ⊎-elim
-    (λ f. f .8 ∙ step-finished _ _ _ _ _ _ _ same (f .2 .ensures)
-    (be (got {w = w64} (f .1 .result) (f .1 .ok)) (f .1 .ensures) .read)
-    (let gross : SFits w32 (x .gross) = search (sfits-of, f .3 .given .1 .1 .1 .1 .1 .0) in simp (toZ-ofZ gross) at (f .4 .ensures))
-    _ _ (f .5 .taken) (f .6 .ensures) (f .7 .ensures))
+    (λ f.
+    let v = be (got {w = w64} (f .1 .result) (f .1 .ok)) (f .1 .ensures) .read in
+    let gross : SFits w32 (x .gross) = search (sfits-of, f .3 .given .1 .1 .1 .1 .1 .0) in
+    let advanced = simp (toZ-ofZ gross) at (f .4 .ensures) in
+    let runs = sym (p .idles) ∙ not-true _ (f .0 .taken) in
+    let back = sym (f .6 .ensures) ∙ f .7 .taken in
+    f .11 ∙ ⊎-elim
+    (λ k. ap (λ (r : State). withWaiting (withSetpoints r (f .9 .result)) (f .10 .result)) (k .3)
+    ∙ step-finished _ _ _ _ _ _ _ (same runs) (f .2 .ensures) v advanced _ _ runs back
+    (f .9 .ensures ∙ (λ h. latestOf (same runs h) (k .3 h .waiting))) (f .10 .ensures)
+    _ _ (k .0 .taken) (k .1 .ensures) (k .2 .ensures))
+    (λ k. ap (λ (r : State). withWaiting (withSetpoints r (f .9 .result)) (f .10 .result)) (k .1)
+    ∙ step-back _ _ _ _ _ _ _ (same runs) (f .2 .ensures) v advanced _ _ runs back
+    (f .9 .ensures ∙ (λ h. latestOf (same runs h) (k .1 h .waiting))) (f .10 .ensures) (k .0 .left))
+    (f .8 .came))
     (⊎-elim
-    (λ o. o .7 ∙ step-on _ _ _ _ _ _ _ same (o .2 .ensures)
+    (λ o. o .8 ∙ step-on _ _ _ _ _ _ _ (same (sym (p .idles) ∙ not-true _ (o .0 .taken))) (o .2 .ensures)
     (be (got {w = w64} (o .1 .result) (o .1 .ok)) (o .1 .ensures) .read)
-    (let gross : SFits w32 (x .gross) = search (sfits-of, o .3 .given .1 .1 .1 .1 .1 .0) in simp (toZ-ofZ gross) at (o .4 .ensures)) (o .5 .left))
+    (let gross : SFits w32 (x .gross) = search (sfits-of, o .3 .given .1 .1 .1 .1 .1 .0) in simp (toZ-ofZ gross) at (o .4 .ensures))
+    (sym (o .6 .ensures) ∙ o .7 .left))
     (λ n. n .1 ∙ step-idle _ _ _ (sym (p .idles) ∙ not-false _ (n .0 .left))))
     (j .if2 .came)
 
@@ -180,7 +206,10 @@ loop-again c =
       counted c
           ∙ ap (λ (st : State). countIn (a .s) (a .contact) st (count t)) (at t .loop .inv .1)
           ∙ sym (fold-more (countIn (a .s) (a .contact)) (a .st) (now (a .counts)) (at t .loop .i) (pos 0) h),
-      ap (λ (st : State). st .setpoints) (stepped c) ∙ step-setpoints _ _ _ ∙ at t .loop .inv .2,
+      λ e.
+          let same = stepped c in
+          let runs = step-runs (a .s) _ _ (sym (ap (λ (st : State). idleOf (st .sequence .stage)) same) ∙ e) in
+          ap (λ (st : State). st .setpoints) same ∙ runs .1 ∙ at t .loop .inv .2 (runs .0),
     )
 
 returns-2 : tie.Need-returns-2 Inv-loop μ-loop
@@ -212,8 +241,11 @@ run-block-spec =
     compared-requires
     is-fit-requires
     advance-requires
+    is-idle-requires-2
     booked-sequence-requires
     booked-totals-requires
+    latest-requires
+    none-waiting-requires
     add-i
     loop-less
     loop-again

@@ -10,6 +10,9 @@ open-book-requires c κs = search needs
 open-setpoints-requires : tie.Need-open-setpoints-requires
 open-setpoints-requires c κs = search needs
 
+none-waiting-requires : tie.Need-none-waiting-requires
+none-waiting-requires c κs = search needs
+
 open-sequence-requires : tie.Need-open-sequence-requires
 open-sequence-requires c κs = search needs
 
@@ -18,7 +21,14 @@ clear-totals-requires c κs = search needs
 
 returns : tie.Need-returns
 unfolding openState
-returns c = simp (c .clear-totals .ensures, c .before .open-sequence .ensures, c .before .before .open-setpoints .ensures, c .before .before .before .open-book .ensures)
+returns c =
+    simp (
+      c .clear-totals .ensures,
+      c .before .open-sequence .ensures,
+      c .before .before .none-waiting .ensures,
+      c .before .before .before .open-setpoints .ensures,
+      c .before .before .before .before .open-book .ensures,
+    )
 
 pub open-state-spec : {M : Type 1} → statement M
 open-state-spec =
@@ -26,6 +36,7 @@ open-state-spec =
     (tie.spec
     open-book-requires
     open-setpoints-requires
+    none-waiting-requires
     open-sequence-requires
     clear-totals-requires
     returns)

@@ -6,14 +6,14 @@ use mir.Syntax.{w32, w64}
 use borrow.Author.Needs.{needs}
 use Rattle.whole.specs.Bits.{got}
 use Rattle.places.specs.Places.{getAll, beAt, signed, flagOf}
-use Rattle.images.specs.StateImage.{stateAt, stateLength}
-use Rattle.images.proofs.Buffers.{of-length, of-other}
+use Rattle.images.specs.StateImage.{stateAt}
+use Rattle.images.proofs.Buffers.{of-long, of-short}
 use Rattle.images.proofs.parts.book_at.Statement.{statement}
 use Rattle.images.proofs.parts.book_at.Tie as tie
 
 returns : tie.Need-returns
 unfolding stateAt getAll beAt signed flagOf
-returns c = ap (λ (b : List ℕ). stateAt b .book) (sym (of-other stateLength _ (c .if1 .taken)))
+returns c = ap (λ (b : List ℕ). stateAt b .book) (sym (of-short _ (c .if1 .taken)))
 
 i32-at-requires : tie.Need-i32-at-requires
 i32-at-requires c κs = search needs
@@ -52,7 +52,7 @@ returns-2 c =
       begun = c .before .flag-at .ensures i;
       contact = c .flag-at2 .ensures i;
     })
-    ∙ ap (λ (b : List ℕ). stateAt b .book) (sym (of-length stateLength _ (c .before .before .before .before .before .before .before .before .if1 .left)))
+    ∙ ap (λ (b : List ℕ). stateAt b .book) (sym (of-long _ (c .before .before .before .before .before .before .before .before .if1 .left)))
 
 pub book-at-spec : {M : Type 1} → statement M
 book-at-spec =

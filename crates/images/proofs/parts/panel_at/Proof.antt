@@ -4,14 +4,14 @@ use mathlib.Core.List.{List}
 use mathlib.Core.Path.{sym, ap, _∙_}
 use borrow.Author.Needs.{needs}
 use Rattle.places.specs.Places.{getAll, beAt}
-use Rattle.images.specs.StateImage.{stateAt, displayOf, stateLength}
-use Rattle.images.proofs.Buffers.{of-length, of-other}
+use Rattle.images.specs.StateImage.{stateAt, displayOf}
+use Rattle.images.proofs.Buffers.{of-long, of-short}
 use Rattle.images.proofs.parts.panel_at.Statement.{statement}
 use Rattle.images.proofs.parts.panel_at.Tie as tie
 
 returns : tie.Need-returns
 unfolding stateAt getAll beAt displayOf
-returns c = ap (λ (b : List ℕ). stateAt b .panel) (sym (of-other stateLength _ (c .if1 .taken)))
+returns c = ap (λ (b : List ℕ). stateAt b .panel) (sym (of-short _ (c .if1 .taken)))
 
 u8-at-requires : tie.Need-u8-at-requires
 u8-at-requires c κs = search needs
@@ -25,7 +25,7 @@ returns-2 c =
     (λ i. record {
       display = (c .display-of .ensures ∙ ap displayOf (c .before .u8-at .ensures)) i;
     })
-    ∙ ap (λ (b : List ℕ). stateAt b .panel) (sym (of-length stateLength _ (c .before .before .if1 .left)))
+    ∙ ap (λ (b : List ℕ). stateAt b .panel) (sym (of-long _ (c .before .before .if1 .left)))
 
 pub panel-at-spec : {M : Type 1} → statement M
 panel-at-spec = tie.close (tie.spec returns u8-at-requires display-of-requires returns-2)

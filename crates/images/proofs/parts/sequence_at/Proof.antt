@@ -4,14 +4,14 @@ use mathlib.Core.List.{List}
 use mathlib.Core.Path.{sym, ap, _∙_}
 use borrow.Author.Needs.{needs}
 use Rattle.places.specs.Places.{getAll, beAt}
-use Rattle.images.specs.StateImage.{stateAt, errorOf, judgementOf, stageOf, stateLength}
-use Rattle.images.proofs.Buffers.{of-length, of-other}
+use Rattle.images.specs.StateImage.{stateAt, errorOf, judgementOf, stageOf}
+use Rattle.images.proofs.Buffers.{of-long, of-short}
 use Rattle.images.proofs.parts.sequence_at.Statement.{statement}
 use Rattle.images.proofs.parts.sequence_at.Tie as tie
 
 returns : tie.Need-returns
 unfolding stateAt getAll beAt stageOf errorOf judgementOf
-returns c = ap (λ (b : List ℕ). stateAt b .sequence) (sym (of-other stateLength _ (c .if1 .taken)))
+returns c = ap (λ (b : List ℕ). stateAt b .sequence) (sym (of-short _ (c .if1 .taken)))
 
 u8-at-requires : tie.Need-u8-at-requires
 u8-at-requires c κs = search needs
@@ -46,7 +46,7 @@ returns-2 c =
       error = (c .before .before .error-of .ensures ∙ ap errorOf (c .before .before .before .u8-at2 .ensures)) i;
       judgement = (c .judgement-of .ensures ∙ ap judgementOf (c .before .u8-at3 .ensures)) i;
     })
-    ∙ ap (λ (b : List ℕ). stateAt b .sequence) (sym (of-length stateLength _ (c .before .before .before .before .before .before .before .before .if1 .left)))
+    ∙ ap (λ (b : List ℕ). stateAt b .sequence) (sym (of-long _ (c .before .before .before .before .before .before .before .before .if1 .left)))
 
 pub sequence-at-spec : {M : Type 1} → statement M
 sequence-at-spec =

@@ -4,14 +4,14 @@ use mathlib.Core.List.{List}
 use mathlib.Core.Path.{sym, ap, _∙_}
 use borrow.Author.Needs.{needs}
 use Rattle.places.specs.Places.{getAll, beAt}
-use Rattle.images.specs.StateImage.{stateAt, stateLength}
-use Rattle.images.proofs.Buffers.{of-length, of-other}
+use Rattle.images.specs.StateImage.{stateAt}
+use Rattle.images.proofs.Buffers.{of-long, of-short}
 use Rattle.images.proofs.parts.setpoints_at.Statement.{statement}
 use Rattle.images.proofs.parts.setpoints_at.Tie as tie
 
 returns : tie.Need-returns
 unfolding stateAt getAll beAt
-returns c = ap (λ (b : List ℕ). stateAt b .setpoints) (sym (of-other stateLength _ (c .if1 .taken)))
+returns c = ap (λ (b : List ℕ). stateAt b .setpoints) (sym (of-short _ (c .if1 .taken)))
 
 u32-at-requires : tie.Need-u32-at-requires
 u32-at-requires c κs = search needs
@@ -46,7 +46,7 @@ returns-2 c =
       under = c .before .u32-at6 .ensures i;
       near = c .u32-at7 .ensures i;
     })
-    ∙ ap (λ (b : List ℕ). stateAt b .setpoints) (sym (of-length stateLength _ (c .before .before .before .before .before .before .before .if1 .left)))
+    ∙ ap (λ (b : List ℕ). stateAt b .setpoints) (sym (of-long _ (c .before .before .before .before .before .before .before .if1 .left)))
 
 pub setpoints-at-spec : {M : Type 1} → statement M
 setpoints-at-spec =

@@ -4,14 +4,14 @@ use mathlib.Core.List.{List}
 use mathlib.Core.Path.{sym, ap, _∙_}
 use borrow.Author.Needs.{needs}
 use Rattle.places.specs.Places.{getAll, beAt, flagOf}
-use Rattle.images.specs.StateImage.{stateAt, stateLength}
-use Rattle.images.proofs.Buffers.{of-length, of-other}
+use Rattle.images.specs.StateImage.{stateAt}
+use Rattle.images.proofs.Buffers.{of-long, of-short}
 use Rattle.images.proofs.parts.stability_at.Statement.{statement}
 use Rattle.images.proofs.parts.stability_at.Tie as tie
 
 returns : tie.Need-returns
 unfolding stateAt getAll beAt flagOf
-returns c = ap (λ (b : List ℕ). stateAt b .stability) (sym (of-other stateLength _ (c .if1 .taken)))
+returns c = ap (λ (b : List ℕ). stateAt b .stability) (sym (of-short _ (c .if1 .taken)))
 
 flag-at-requires : tie.Need-flag-at-requires
 flag-at-requires c κs = search needs
@@ -26,7 +26,7 @@ returns-2 c =
       good = c .before .flag-at .ensures i;
       run = c .u16-at .ensures i;
     })
-    ∙ ap (λ (b : List ℕ). stateAt b .stability) (sym (of-length stateLength _ (c .before .before .if1 .left)))
+    ∙ ap (λ (b : List ℕ). stateAt b .stability) (sym (of-long _ (c .before .before .if1 .left)))
 
 pub stability-at-spec : {M : Type 1} → statement M
 stability-at-spec = tie.close (tie.spec returns flag-at-requires u16-at-requires returns-2)

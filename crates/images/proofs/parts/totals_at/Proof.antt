@@ -4,14 +4,14 @@ use mathlib.Core.List.{List}
 use mathlib.Core.Path.{sym, ap, _∙_}
 use borrow.Author.Needs.{needs}
 use Rattle.places.specs.Places.{getAll, beAt}
-use Rattle.images.specs.StateImage.{stateAt, backOf, stateLength}
-use Rattle.images.proofs.Buffers.{of-length, of-other}
+use Rattle.images.specs.StateImage.{stateAt, backOf}
+use Rattle.images.proofs.Buffers.{of-long, of-short}
 use Rattle.images.proofs.parts.totals_at.Statement.{statement}
 use Rattle.images.proofs.parts.totals_at.Tie as tie
 
 returns : tie.Need-returns
 unfolding stateAt getAll beAt backOf
-returns c = ap (λ (b : List ℕ). stateAt b .totals) (sym (of-other stateLength _ (c .if1 .taken)))
+returns c = ap (λ (b : List ℕ). stateAt b .totals) (sym (of-short _ (c .if1 .taken)))
 
 u64-at-requires : tie.Need-u64-at-requires
 u64-at-requires c κs = search needs
@@ -36,7 +36,7 @@ returns-2 c =
       count = c .before .before .before .u32-at .ensures i;
       back = (c .back-of .ensures ∙ (λ j. backOf (c .before .before .u8-at .ensures j) (c .before .u64-at2 .ensures j))) i;
     })
-    ∙ ap (λ (b : List ℕ). stateAt b .totals) (sym (of-length stateLength _ (c .before .before .before .before .before .if1 .left)))
+    ∙ ap (λ (b : List ℕ). stateAt b .totals) (sym (of-long _ (c .before .before .before .before .before .if1 .left)))
 
 pub totals-at-spec : {M : Type 1} → statement M
 totals-at-spec =

@@ -6,14 +6,14 @@ use mir.Syntax.{w32}
 use borrow.Author.Needs.{needs}
 use Rattle.whole.specs.Bits.{got}
 use Rattle.places.specs.Places.{getAll, beAt, signed}
-use Rattle.images.specs.StateImage.{stateAt, stateLength}
-use Rattle.images.proofs.Buffers.{of-length, of-other}
+use Rattle.images.specs.StateImage.{stateAt}
+use Rattle.images.proofs.Buffers.{of-long, of-short}
 use Rattle.images.proofs.parts.weighing_at.Statement.{statement}
 use Rattle.images.proofs.parts.weighing_at.Tie as tie
 
 returns : tie.Need-returns
 unfolding stateAt getAll beAt signed
-returns c = ap (λ (b : List ℕ). stateAt b .weighing) (sym (of-other stateLength _ (c .if1 .taken)))
+returns c = ap (λ (b : List ℕ). stateAt b .weighing) (sym (of-short _ (c .if1 .taken)))
 
 i32-at-requires : tie.Need-i32-at-requires
 i32-at-requires c κs = search needs
@@ -36,7 +36,7 @@ returns-2 c =
       tare = (got {w = w32} _ (c .before .i32-at3 .ok) .read ∙ c .before .i32-at3 .ensures) i;
       counter = c .u16-at .ensures i;
     })
-    ∙ ap (λ (b : List ℕ). stateAt b .weighing) (sym (of-length stateLength _ (c .before .before .before .before .if1 .left)))
+    ∙ ap (λ (b : List ℕ). stateAt b .weighing) (sym (of-long _ (c .before .before .before .before .if1 .left)))
 
 pub weighing-at-spec : {M : Type 1} → statement M
 weighing-at-spec =

@@ -49,7 +49,7 @@ returns c =
     λ i. c .before .before .before .is-stability .ensures i
     && (c .before .before .setpoints-fit .ensures ∙ (λ k. setpointsFit (mode k) (a .p))) i
     && (c .before .is-sequence .ensures ∙ (λ k. sequenceFits b (n k) (t k) (a .x .clock) (e k) (j k))) i
-    && (c .is-together .ensures ∙ (λ k. togetherFits (mode k) (a .p) (n k) (a .q .good) (a .begun) (a .counter))) i
+    && (c .is-together .ensures ∙ (λ k. togetherFits (mode k) (a .p) (n k) (a .q .good) (a .begun) (a .counter) (a .waits))) i
 
 pub is-rest-spec : {M : Type 1} → statement M
 is-rest-spec =

@@ -1,6 +1,6 @@
 -- Each test as the law has it.
 use mathlib.Core.Path.{_∙_}
-use mathlib.Core.Bool.{_&&_}
+use mathlib.Core.Bool.{_&&_, _||_}
 use lib.Dec.{eqb, leb}
 use borrow.Author.Needs.{needs}
 use Rattle.images.proofs.Read.{whole}
@@ -67,9 +67,25 @@ back-weight-requires c κs = search needs
 u64-at-requires : tie.Need-u64-at-requires
 u64-at-requires c κs = search needs
 
+u8-at-requires-9 : tie.Need-u8-at-requires-9
+u8-at-requires-9 c κs = search needs
+
+is-flag-requires-5 : tie.Need-is-flag-requires-5
+is-flag-requires-5 c κs = search needs
+
+u8-at-requires-10 : tie.Need-u8-at-requires-10
+u8-at-requires-10 c κs = search needs
+
+are-zero-requires : tie.Need-are-zero-requires
+are-zero-requires c κs = search needs
+
 returns : tie.Need-returns
 returns c =
-    let c20 = c in
+    let c24 = c in
+    let c23 = c24 .before in
+    let c22 = c23 .before in
+    let c21 = c22 .before in
+    let c20 = c21 .before in
     let c19 = c20 .before in
     let c18 = c19 .before in
     let c17 = c18 .before in
@@ -100,7 +116,9 @@ returns c =
     && eqb (c13 .error-number .ensures i) (c14 .u8-at6 .ensures i)
     && eqb (c15 .judgement-number .ensures i) (c16 .u8-at7 .ensures i)
     && eqb (c17 .back-tag .ensures i) (c18 .u8-at8 .ensures i)
-    && eqb (c19 .back-weight .ensures i) (c20 .u64-at .ensures i))
+    && eqb (c19 .back-weight .ensures i) (c20 .u64-at .ensures i)
+    && (c22 .is-flag5 .ensures ∙ (λ k. leb (c21 .u8-at9 .ensures k) 1)) i
+    && (eqb (c23 .u8-at10 .ensures i) 1 || c24 .are-zero .ensures i))
     ∙ whole (start .args .s .now) (λ k. c1 .before .shared-slice-known .given k .fits) (start .args .q) (start .args .t) (start .pre .0) (start .pre .1)
 
 pub is-read-whole-spec : {M : Type 1} → statement M
@@ -127,4 +145,8 @@ is-read-whole-spec =
     u8-at-requires-8
     back-weight-requires
     u64-at-requires
+    u8-at-requires-9
+    is-flag-requires-5
+    u8-at-requires-10
+    are-zero-requires
     returns)

@@ -16,6 +16,9 @@ enum-told-2 c = search needs
 enum-told-3 : tie.Need-enum-told-3
 enum-told-3 c = search needs
 
+latest-requires : tie.Need-latest-requires
+latest-requires c κs = search needs
+
 letters-for-requires : tie.Need-letters-for-requires
 letters-for-requires c κs = search needs
 
@@ -29,7 +32,7 @@ returns-2 : tie.Need-returns-2
 returns-2 c = simp (c .enum-told2 .given .1)
 
 returns-3 : tie.Need-returns-3
-returns-3 c = simp (c .before .enum-told3 .given .1)
+returns-3 c = simp (c .latest .ensures, c .before .enum-told3 .given .1)
 
 returns-4 : tie.Need-returns-4
 returns-4 c = let s = c .before .before .before in simp (c .request-reply .ensures, c .before .letters-for .ensures) (settled (s .args .w) (s .args .st) (s .args .x) (s .args .o) (c .before .before .match .keys4))
@@ -42,6 +45,7 @@ word-reply-spec =
     shown-of-requires
     enum-told-2
     enum-told-3
+    latest-requires
     letters-for-requires
     request-reply-requires
     returns
