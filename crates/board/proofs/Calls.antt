@@ -237,4 +237,5 @@ grows-a-run g s k a h w t n =
     let made : settingsBy l ≡ s = ap (λ (r : GivenRead). settingsOf (r .given)) b ∙ made-of g s a in
     let can : possible (settingsBy l) (stateAt e) ≡ true = (λ i. possible (made i) (x .state i)) ∙ p in
     let why = unrefused-all (givenIn l .refusal) (length t) (earlierRefusal e) (ap (λ (r : GivenRead). r .refusal) b) n (x .refusal) in
-    sym (grow-good l e t why s can (ap (λ (r : GivenRead). openOf (r .given)) b ∙ a) .1) ∙ x .grown
+    let k = grow-good l e t why s can (ap (λ (r : GivenRead). openOf (r .given)) b ∙ a) in
+    record { told = sym (k .0); image = sym (k .1) ∙ x .grown }

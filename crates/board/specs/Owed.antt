@@ -84,12 +84,16 @@ pub record GrownTo (l e t : List ℕ) : Type 0 where
 abbrev pub GrowsPass : Type 0
 GrowsPass = (l e t : List ℕ) → growAnswer l e (length t) ≡ 0 → GrownTo l e t
 
--- and no image that an earlier program kept is refused: that of a run in which nothing waits, less the bytes that it lacked, grows to the
--- run's
+-- and no image that an earlier program kept is refused. That program refused writes outside 00 with 3; its run is today's run without
+-- those writes, in which nothing waits. Today's image of it, without its last 32 bytes, is the one that was kept, and grows to the whole.
+pub record GrownBack (l e t : List ℕ) (st : State) : Type 0 where
+  pub told : growAnswer l e (length t) ≡ 0
+  pub image : growImage l e t ≡ imageOf st
+
 abbrev pub GrowsARun : Type 0
 GrowsARun = (g : Given) (s : Settings) → Held g → openOf g ≡ opening.Accepted s → (h : History Input) → runOf s h .waiting ≡ noneWaiting
     → (t : List ℕ) → length t ≡ stateLength
-    → growImage (givenImage g) (take earlierLength (imageOf (runOf s h))) t ≡ imageOf (runOf s h)
+    → GrownBack (givenImage g) (take earlierLength (imageOf (runOf s h))) t (runOf s h)
 
 -- ---- the byte for a reply's length holds all of it
 abbrev pub LengthTold : Type 0

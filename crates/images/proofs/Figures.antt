@@ -1,17 +1,34 @@
 -- The figures of images are the definitions', computed. Assumes nothing.
 use mathlib.Core.Path.{refl}
-use Rattle.places.specs.Places.{putBe, putAll, coded, flagTag}
+use Rattle.places.specs.Places.{beAt, putBe, getAll, putAll, signed, coded, flagOf, flagTag, sameBytes}
 use Rattle.outline.specs.Settings.{settingsOf}
 use Rattle.outline.specs.Tick.{openState}
 use Rattle.outline.specs.Setpoints.{setpointsFit}
-use Rattle.images.specs.StateImage.{displayNumber, stageTimer, backTag, backWeight, writeTag, writePoints, putState, imageOf}
+use Rattle.images.specs.StateImage.{displayNumber, displayOf, stageOf, stageTimer, errorOf, judgementOf, backTag, backWeight, backOf, writeTag, writePoints, writeOf, putState, imageOf, stateAt, grownOf}
 use Rattle.images.specs.GivenImage.{putGiven, givenImage}
 use Rattle.images.specs.Possible.{bookPossible, stabilityPossible, weighingPossible, timeOf, clockLimit, sequenceFits, totalsPossible, flowPossible, togetherFits, possible}
-use Rattle.images.specs.Figures.{Imaged, Judged}
+use Rattle.images.specs.Images.{earlierRefusal}
+use Rattle.images.specs.Figures.{Imaged, Earlier, Judged}
 
 pub imaged : Imaged
 unfolding imageOf putState givenImage putGiven putAll putBe coded flagTag displayNumber stageTimer backTag backWeight writeTag writePoints openState
 imaged = record { settings-a = refl; settings-b = refl; opening = refl; mid = refl; feeding = refl; idle = refl; failed = refl; light = refl; unweighed = refl }
+
+pub earlier : Earlier
+unfolding imageOf putState stateAt grownOf earlierRefusal beAt putBe getAll putAll signed coded flagOf flagTag sameBytes displayNumber displayOf stageOf stageTimer errorOf judgementOf backTag backWeight backOf writeTag writePoints writeOf
+earlier = record {
+  feeding-read = refl;
+  feeding-taken = refl;
+  feeding-grown = refl;
+  idle-read = refl;
+  idle-taken = refl;
+  idle-grown = refl;
+  one-short = refl;
+  one-more = refl;
+  present = refl;
+  last-unused = refl;
+  no-display = refl;
+}
 
 pub judged : Judged
 unfolding possible bookPossible stabilityPossible weighingPossible setpointsFit timeOf clockLimit sequenceFits totalsPossible flowPossible togetherFits stageTimer backTag backWeight settingsOf

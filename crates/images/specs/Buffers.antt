@@ -1,5 +1,5 @@
--- A buffer of any length. Only one of the state image's length is written. One of at least the earlier length is read, except for what
--- waits, which is read from the state image's length alone; a shorter one reads as if it had no byte.
+-- A buffer of any length. Only one of the state image's length is written. The waiting set is read from such a buffer alone, every other
+-- part from any buffer of at least the earlier length; a shorter one reads as if it had no byte.
 use Prim.Native.Nat.{ℕ}
 use mathlib.Core.List.{List, []}
 use mathlib.Core.Bool.{Bool, false, cond, _||_}

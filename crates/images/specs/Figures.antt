@@ -27,7 +27,8 @@ use Rattle.outline.specs.Settings.{settingsOf}
 use Rattle.outline.specs.Setpoints.{noneWaiting, waitingFor}
 use Rattle.outline.specs.Parts.{withWaiting}
 use Rattle.outline.specs.Tick.{openState}
-use Rattle.images.specs.StateImage.{stateLength, imageOf}
+use Rattle.images.specs.StateImage.{stateLength, imageOf, stateAt, grownOf}
+use Rattle.images.specs.Images.{earlierRefusal}
 use Rattle.images.specs.GivenImage.{givenLength, givenImage}
 use Rattle.images.specs.Possible.{possible}
 
@@ -256,6 +257,21 @@ pub record Imaged : Type 0 where
   pub failed : imageOf failed ≡ bytesOf stateLength failedBytes
   pub light : imageOf light ≡ bytesOf stateLength lightBytes
   pub unweighed : imageOf unweighed ≡ bytesOf stateLength unweighedBytes
+
+-- ---- A5: earlier images, 256 of the same bytes, as the program before it wrote them; and of other lengths, and with a byte set that has
+-- no place
+pub record Earlier : Type 0 where
+  pub feeding-read : stateAt (bytesOf 256 feedingBytes) ≡ feeding
+  pub feeding-taken : earlierRefusal (bytesOf 256 feedingBytes) ≡ 0
+  pub feeding-grown : grownOf (bytesOf 256 feedingBytes) ≡ bytesOf 288 feedingBytes
+  pub idle-read : stateAt (bytesOf 256 idleBytes) ≡ idle
+  pub idle-taken : earlierRefusal (bytesOf 256 idleBytes) ≡ 0
+  pub idle-grown : grownOf (bytesOf 256 idleBytes) ≡ bytesOf 288 idleBytes
+  pub one-short : earlierRefusal (bytesOf 255 idleBytes) ≡ 20
+  pub one-more : earlierRefusal (bytesOf 257 idleBytes) ≡ 20
+  pub present : earlierRefusal (bytesOf 288 idleBytes) ≡ 20
+  pub last-unused : earlierRefusal (bytesOf 256 (at 255 1 ∷ idleBytes)) ≡ 21
+  pub no-display : earlierRefusal (bytesOf 256 (at 58 2 ∷ idleBytes)) ≡ 21
 
 -- ---- verdicts: a state with some fields altered, and whether it is possible
 abbrev pub book : State → Book → State

@@ -88,8 +88,8 @@ pub record Grown (g : Given) (e : List ℕ) : Type 0 where
 abbrev pub Grows : Type 0
 Grows = (g : Given) (e : List ℕ) → earlierRefusal e ≡ 0 → possible (settingsOf g) (stateAt e) ≡ true → Grown g e
 
--- and no image that an earlier program wrote is refused: a possible state in which nothing waits has an earlier image, that of today less
--- the bytes that it lacked
+-- and no image that an earlier program wrote is refused: a possible state in which nothing waits has an earlier image, today's without its
+-- last 32 bytes
 pub record Earlier (st : State) : Type 0 where
   pub refusal : earlierRefusal (take earlierLength (imageOf st)) ≡ 0
   pub state : stateAt (take earlierLength (imageOf st)) ≡ st

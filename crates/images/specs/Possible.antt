@@ -114,7 +114,7 @@ flowPossible m p n =
     && (not (eqb n 6 || eqb n 7) || not (eqb (p .preliminary) 0))
 
 -- where the last tick was good, there has been a good one; a batch or a discharge goes on after a good tick alone; the tracking counter
--- is 0 but in stage 00 after a good tick; setpoints wait outside 00 alone
+-- is 0 but in stage 00 after a good tick; setpoints wait only outside 00
 unfoldable pub togetherFits : Mode → Setpoints → ℕ → Bool → Bool → ℕ → Bool → Bool
 togetherFits m p n good begun counter waits =
     (not good || begun) && (eqb n 0 || good) && ((eqb n 0 && good) || eqb counter 0) && (not (eqb n 0) || not waits) && flowPossible m p n

@@ -1,6 +1,6 @@
 // Images: a state in 288 bytes and settings in 128, as docs/IMAGES.md fixes them. The parts of a state are read and written in their
 // places; an image is judged by its bytes and by its ranges. Nothing is kept here.
-ghost use Rattle.images.specs.Figures.{Imaged, Judged};
+ghost use Rattle.images.specs.Figures.{Imaged, Judged, Earlier};
 ghost use Rattle.images.specs.Owed.{ReadBack, OneImage, UnusedZero, GivenBack, OneGiven, UnusedGiven, Decides, RunsPass, FromImages};
 ghost use Rattle.images.specs.Owed.{Grows, EarlierRead};
 
@@ -15,6 +15,7 @@ pub mod state;
 pub fn every_image()
     ensures imaged { λ r. ⌜ Imaged ⌝ }
     ensures judged { λ r. ⌜ Judged ⌝ }
+    ensures earlier { λ r. ⌜ Earlier ⌝ }
     ensures read_back { λ r. ⌜ ReadBack ⌝ }
     ensures one_image { λ r. ⌜ OneImage ⌝ }
     ensures unused_zero { λ r. ⌜ UnusedZero ⌝ }

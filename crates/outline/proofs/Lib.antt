@@ -61,6 +61,7 @@ pub mod RangeRun
 -- setpoints: read back, and waiting
 pub mod ReadBack
 pub mod WaitingRun
+pub mod WaitingAside
 -- every tick with a line
 pub mod LineEnds
 pub mod LineBytes

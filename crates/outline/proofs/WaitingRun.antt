@@ -8,6 +8,7 @@ use Rattle.types.specs.declared.requests.Request.{Request}
 use Rattle.types.specs.declared.requests.Request.the-variants as request
 use Rattle.types.specs.declared.requests.Outcome.{Outcome}
 use Rattle.types.specs.declared.requests.Outcome.the-variants as outcome
+use Rattle.types.specs.declared.stages.Setpoints.{Setpoints}
 use Rattle.types.specs.declared.stages.Waiting.{Waiting}
 use Rattle.types.specs.declared.stages.Write.{Write}
 use Rattle.types.specs.declared.stages.Write.the-variants as write
@@ -175,9 +176,21 @@ module _ (s : Settings) where
   unfolding nextOf pointsSeen tickOf outputsOf
   tick-reads st i n = ended-latest s (settledOf s st i) (servedOf s st i) ∙ settled-reads st i n
 
-pub latest-of-writes : LatestOfWrites
+-- the history's own words for a write that replaces what was read
+replaced : (w : Write) (p : Setpoints) → write.Points (writtenElse w p) ≡ replaces w (write.Points p)
+replaced write.Nothing p = refl
+replaced (write.Points n) p = refl
+
+reads-last : (s : Settings) (h : History Input) → write.Points (readOf (runOf s h)) ≡ writtenLast (pointsRun s h)
 unfolding runOf openState
-latest-of-writes s a start = refl
-latest-of-writes s a (h ▷ i) =
-    tick-reads s (runOf s h) i (run-in s h .together .none-waits)
-    ∙ ap (writtenElse (pointsSeen s (runOf s h) i .write)) (latest-of-writes s a h)
+reads-last s start = refl
+reads-last s (h ▷ i) =
+    ap write.Points (tick-reads s (runOf s h) i (run-in s h .together .none-waits))
+    ∙ replaced (pointsSeen s (runOf s h) i .write) (readOf (runOf s h))
+    ∙ ap (replaces (pointsSeen s (runOf s h) i .write)) (reads-last s h)
+
+pub latest-of-writes : LatestOfWrites
+latest-of-writes s a h = record {
+  read = reads-last s h;
+  in-use = λ e. sym (ap (λ (w : Waiting). write.Points (latestOf (runOf s h .setpoints) w)) (run-in s h .together .none-waits e)) ∙ reads-last s h;
+}

@@ -17,7 +17,7 @@ pub record Kind : Type 0 where
   pub zeroes : Bool
   -- a day close is asked
   pub closes : Bool
-  -- the setpoints that are written
+  -- the setpoints that it writes, if any
   pub writes : Write
   -- "Step 6 is passed over in a tick with an accepted start, or a stop."; A1: "BD, like BB, .. passes step 6 over"
   pub skips : Bool

@@ -122,7 +122,7 @@ pub record TotalsRange (t : Totals) : Type 0 where
   pub count : t .count ≤ batchLimit
   pub back : BackRange t (t .back)
 
--- A5: what waits was accepted, so it keeps the rules of 6
+-- A5: what waits was accepted, so it keeps the rules that refusal 6 tests
 abbrev pub writeFits : Mode → Write → Bool
 writeFits m write.Nothing = true
 writeFits m (write.Points p) = setpointsFit m p
@@ -153,7 +153,7 @@ pub record TogetherRange (s : Settings) (st : State) : Type 0 where
   -- the tracking counter counts in stage 00, from good tick to good tick
   pub resting : idleOf (st .sequence .stage) ≡ false → st .weighing .counter ≡ 0
   pub unbroken : st .stability .good ≡ false → st .weighing .counter ≡ 0
-  -- a batch's setpoints stay as they are until it ends
+  -- the set in use stays as it is until the batch ends
   pub flow : flowFits (s .batching .mode) (st .setpoints) (st .sequence .stage) ≡ true
   -- A5: in 00 nothing waits
   pub none-waits : idleOf (st .sequence .stage) ≡ true → st .waiting ≡ noneWaiting

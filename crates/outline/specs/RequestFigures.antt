@@ -136,10 +136,10 @@ pub record Asked : Type 0 where
   -- "Step 6 is passed over in a tick with an accepted start, or a stop." (A1: or an accepted discharge), and in no other: 03 goes on to 08
   pub step-6-accepted :
       stageWith request.Nothing ∷ stageWith request.TotalClear ∷ stageWith request.ShowGross ∷ stageWith request.ShowNet
-      ∷ stageWith request.DayClose ∷ []
-      ≡ 8 ∷ 8 ∷ 8 ∷ 8 ∷ 8 ∷ []
+      ∷ stageWith request.DayClose ∷ stageWith (request.Set (setpoints 10 0 0 0)) ∷ []
+      ≡ 8 ∷ 8 ∷ 8 ∷ 8 ∷ 8 ∷ 8 ∷ []
   pub step-6-refused :
       stageWith request.Zero ∷ stageWith request.Tare ∷ stageWith request.TareClear ∷ stageWith request.Start
-      ∷ stageWith (request.Set (setpoints 10 0 0 0)) ∷ stageWith request.Undo ∷ stageWith request.Discharge ∷ []
+      ∷ stageWith (request.Set (setpoints 1 2 0 0)) ∷ stageWith request.Undo ∷ stageWith request.Discharge ∷ []
       ≡ 8 ∷ 8 ∷ 8 ∷ 8 ∷ 8 ∷ 8 ∷ 8 ∷ []
   pub step-6-stop : stageWith request.Stop ≡ 0

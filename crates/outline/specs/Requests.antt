@@ -126,13 +126,14 @@ closing st = record {
   closed = closed.Day (st .book);
 }
 
--- A5: "It comes into use at the tick the stage returns to 00": where it does so, nothing waits any more
+-- A5: "It comes into use at the tick the stage returns to 00". `returned`: the stage returns to 00 in this step; then the waiting set, if
+-- there is one, is in use, and none waits
 abbrev pub comesIn : Bool → State → State
 comesIn returned st =
     withWaiting (withSetpoints st (cond returned (latestOf (st .setpoints) (st .waiting)) (st .setpoints)))
     (cond returned noneWaiting (st .waiting))
 
--- a stop outside 00 returns to 00
+-- a stop outside 00 returns to 00 in step 4, and what waits comes into use there
 abbrev pub stoppedOf : State → State
 stoppedOf st = comesIn (not (idleNow st)) (withSequence st (stopSequence (st .sequence)))
 

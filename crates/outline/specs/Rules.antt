@@ -87,6 +87,7 @@ pub record Refused : Type 0 where
   pub discharge-unstable : number openState (pos 0) request.Discharge ≡ 0
   pub tare-clear-running : number running (pos 0) request.TareClear ≡ 3
   pub tare-clear-bad : number openState (pos 2000001) request.TareClear ≡ 0
+  -- A5: "setpoints no longer answer 3; 6 stands."
   pub set-running : number running (pos 0) (request.Set (setpoints 1 2 0 0)) ≡ 6
   pub close-bad : number openState (pos 2000001) request.DayClose ≡ 1
   pub close-overload : number running (pos 110000) request.DayClose ≡ 0

@@ -42,7 +42,7 @@ unfoldable pub setpointsFit : Mode → Setpoints → Bool
 setpointsFit m p = sevenFit p && fallFits p && preliminaryFits p && optionalFits m p
 
 -- ---- A5: "A write in any stage but 00 goes to a waiting set beside the one in use"
--- at opening, and in every stage 00: none
+-- no set waits: so it is at opening, and whenever the stage is 00
 abbrev pub noneWaiting : Waiting
 noneWaiting = record { write = write.Nothing }
 
@@ -50,6 +50,7 @@ noneWaiting = record { write = write.Nothing }
 abbrev pub waitingFor : Setpoints → Waiting
 waitingFor p = record { write = write.Points p }
 
+-- the setpoints that were written, or p where none were
 abbrev pub writtenElse : Write → Setpoints → Setpoints
 writtenElse write.Nothing p = p
 writtenElse (write.Points n) p = n

@@ -12,6 +12,8 @@ use Rattle.types.specs.declared.daybook.Closed.the-variants as closed
 use Rattle.types.specs.declared.requests.Request.the-variants as request
 use Rattle.types.specs.declared.requests.Outcome.the-variants as outcome
 use Rattle.types.specs.declared.stages.Setpoints.{Setpoints}
+use Rattle.types.specs.declared.stages.Waiting.{Waiting}
+use Rattle.types.specs.declared.stages.Write.the-variants as write
 use Rattle.types.specs.declared.stages.SequenceError.the-variants as error
 use Rattle.types.specs.declared.stages.Gates.{Gates}
 use Rattle.types.specs.declared.stages.Totals.{Totals}
@@ -22,10 +24,11 @@ use Rattle.types.specs.declared.lines.LineAnswer.the-variants as told
 use Rattle.types.specs.declared.lines.LineTick.{LineTick}
 use Rattle.types.specs.declared.lines.Word.the-variants as word
 use Rattle.outline.specs.Limits.{blockLimit, totalLimit, batchLimit}
-use Rattle.outline.specs.Setpoints.{latestOf}
+use Rattle.outline.specs.Setpoints.{openSetpoints, noneWaiting, latestOf}
 use Rattle.outline.specs.Stages.{shut, idleOf, dischargingOf}
 use Rattle.outline.specs.Totals.{clearTotals, takenBack}
-use Rattle.outline.specs.Requests.{doneOf}
+use Rattle.outline.specs.Parts.{withSetpoints, withWaiting}
+use Rattle.outline.specs.Requests.{idleNow, doneOf}
 use Rattle.outline.specs.Tick.{settledOf, servedOf, nextOf, tickOf, blockOf}
 use Rattle.outline.specs.Lines.{lineOf, prefixLength, commandOf}
 use Rattle.outline.specs.Replies.{framed, dueText, lineTickOf}
@@ -206,8 +209,25 @@ abbrev pub InUseStays : Type 0
 InUseStays = (s : Settings) (st : State) (i : Input) → idleOf (tickOf s st i .answer .stage) ≡ false
     → nextOf s st i .setpoints ≡ st .setpoints
 
--- ---- 17. A5: "It comes into use": what waits, or where nothing does the set in use, is the last accepted write of all; so in 00 that is in
--- use
+-- ---- 17. A5: "It comes into use": the waiting set, or the set in use where none waits, is the last accepted write of the run; in 00 the set
+-- in use is
+pub record Latest (s : Settings) (h : History Input) : Type 0 where
+  pub read : write.Points (latestOf (runOf s h .setpoints) (runOf s h .waiting)) ≡ writtenLast (pointsRun s h)
+  pub in-use : idleNow (runOf s h) ≡ true → write.Points (runOf s h .setpoints) ≡ writtenLast (pointsRun s h)
+
 abbrev pub LatestOfWrites : Type 0
-LatestOfWrites = (s : Settings) → Accepted s → (h : History Input)
-    → latestOf (runOf s h .setpoints) (runOf s h .waiting) ≡ writtenLast (pointsRun s h)
+LatestOfWrites = (s : Settings) → Accepted s → (h : History Input) → Latest s h
+
+-- ---- 18. A5: "after judgement and booking", which are by the set in use: whatever waits, a tick of whatever state leaves the same stage,
+-- judgement, error and totals, and the same of every other part but the two sets
+abbrev pub besideSets : State → State
+besideSets st = withWaiting (withSetpoints st openSetpoints) noneWaiting
+
+abbrev pub WaitingAside : Type 0
+WaitingAside = (s : Settings) (st : State) (w : Waiting) (i : Input)
+    → besideSets (nextOf s (withWaiting st w) i) ≡ besideSets (nextOf s st i)
+
+-- ---- 19. A5: and a write outside 00, in the tick of a finish or an error too, does no more than none does to any part but the two sets
+abbrev pub WriteAside : Type 0
+WriteAside = (s : Settings) (st : State) (i : Input) (p : Setpoints) → idleNow st ≡ false → i .request ≡ request.Set p
+    → besideSets (nextOf s st i) ≡ besideSets (nextOf s st (withoutRequest i))

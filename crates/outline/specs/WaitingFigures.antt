@@ -10,8 +10,9 @@ use Rattle.types.specs.declared.requests.Request.the-variants as request
 use Rattle.types.specs.declared.stages.Setpoints.{Setpoints}
 use Rattle.types.specs.declared.stages.Waiting.{Waiting}
 use Rattle.types.specs.declared.machine.State.{State}
-use Rattle.outline.specs.Setpoints.{noneWaiting, waitingFor}
+use Rattle.outline.specs.Setpoints.{openSetpoints, noneWaiting, waitingFor}
 use Rattle.outline.specs.Tick.{openState}
+use Rattle.outline.specs.Replies.{lineTickOf}
 use Rattle.outline.specs.Figures.{tickAt, told, setpoints}
 use Rattle.outline.specs.Worked.{Leg, leg, line, reply}
 use Rattle.outline.specs.Finishes.{stateAfter}
@@ -27,7 +28,11 @@ new = record { target = 50; fall = 0; preliminary = 0; optional = 0; over = 0; u
 abbrev pub newer : Setpoints
 newer = record { target = 70; fall = 0; preliminary = 0; optional = 0; over = 0; under = 0; near = 20 }
 
--- the batch of RequestFigures' oneBatch, with those setpoints: 03 after two ticks, 08 after three, 09 at 100 after four, 10, 11 and,
+-- F 10 again, but with 5 for over and under: by it 13 is OK, by the set in use it is over
+abbrev pub lax : Setpoints
+lax = record { target = 10; fall = 0; preliminary = 0; optional = 0; over = 5; under = 5; near = 0 }
+
+-- the batch of RequestFigures' oneBatch, with the old set: 03 after two ticks, 08 after three, 09 at 100 after four, 10, 11 and,
 -- in the fourteenth tick, 00
 abbrev pub fed : ℕ → State
 fed n =
@@ -50,16 +55,26 @@ abbrev pub in11 : State
 in11 = fed 3
 
 -- a write in 09, at 0
+abbrev pub written : Setpoints → State
+written p =
+    after (leg 1 (pos 0) (request.Set old) ∷ leg 1 (pos 0) request.Start ∷ leg 2 (pos 0) request.Nothing ∷ leg 1 (pos 0) (request.Set p) ∷ [])
+
 abbrev pub waits : State
-waits =
-    after
-    (leg 1 (pos 0) (request.Set old) ∷ leg 1 (pos 0) request.Start ∷ leg 2 (pos 0) request.Nothing ∷ leg 1 (pos 0) (request.Set new) ∷ [])
+waits = written new
 
 -- from there at 100: v is 10, the old F and not the new, so 10, 11, and the finish in the eleventh tick
 abbrev pub wentOn : ℕ → State
 wentOn n = stateAfter settings10 (leg n (pos 100) request.Nothing ∷ []) waits
 
--- a discharge at 100, above the near zero of 0: 14, 15; at 0 16; then 00
+-- a second batch after that one, with a write in 03; it is in 08
+abbrev pub again : State
+again = stateAfter settings10 (leg 1 (pos 100) request.Start ∷ leg 1 (pos 100) (request.Set newer) ∷ []) (wentOn 11)
+
+-- a write of these, and then this count until the batch finishes
+abbrev pub finishAt : ℤ → Setpoints → State
+finishAt count p = stateAfter settings10 (leg 11 count request.Nothing ∷ []) (written p)
+
+-- a discharge at 100, above the near zero of 0: 14, 15; at 0, 16; and then 00
 abbrev pub emptying : State
 emptying =
     after
@@ -87,12 +102,15 @@ pub record Waited : Type 0 where
   pub in-15 : Sets (tickAt settings10 emptying (pos 100) (request.Set new) .state) old (waitingFor new)
   -- "a second write replaces the first"
   pub second : Sets (tickAt settings10 waits (pos 0) (request.Set newer) .state) old (waitingFor newer)
-  -- the batch goes on by the old set: 10 after the first tick at 100, and nothing changes in 11
+  -- the batch goes on by the old set: 10 after the first tick at 100; in 11 both sets are as they were
   pub by-the-old : standing (wentOn 1) ≡ 10 ∷ 0 ∷ 0 ∷ 0 ∷ 0 ∷ []
   pub still-waits : Sets (wentOn 10) old (waitingFor new)
   -- "It comes into use at the tick the stage returns to 00, .. after judgement and booking.": 10 is OK by the old set, under by the new
   pub finished : standing (wentOn 11) ≡ 0 ∷ 0 ∷ 1 ∷ 10 ∷ 1 ∷ []
   pub finished-sets : Sets (wentOn 11) new noneWaiting
+  -- 13 is over by the old set, OK by the new
+  pub finished-over : standing (finishAt (pos 130) lax) ≡ 0 ∷ 0 ∷ 2 ∷ 13 ∷ 1 ∷ []
+  pub finished-over-sets : Sets (finishAt (pos 130) lax) lax noneWaiting
   -- near zero of the finishing tick is by the new set
   pub finished-near : told settings10 (wentOn 10) (pos 100) request.Nothing .near ≡ true
   -- "by finish or error": a bad tick; by stop, whose own tick has its near zero by the new set: gross 15 is above 0 and below 20
@@ -110,6 +128,21 @@ pub record Waited : Type 0 where
   pub next-batch :
       standing (stateAfter settings10 (leg 1 (pos 100) request.Start ∷ leg 3 (pos 100) request.Nothing ∷ []) (wentOn 11))
       ≡ 9 ∷ 0 ∷ 0 ∷ 10 ∷ 1 ∷ []
+  -- total clear and undo leave both sets
+  pub cleared : standing (tickAt settings10 again (pos 100) request.TotalClear .state) ≡ 9 ∷ 0 ∷ 0 ∷ 0 ∷ 0 ∷ []
+  pub cleared-sets : Sets (tickAt settings10 again (pos 100) request.TotalClear .state) new (waitingFor newer)
+  pub undone : standing (tickAt settings10 again (pos 100) request.Undo .state) ≡ 9 ∷ 0 ∷ 0 ∷ 0 ∷ 0 ∷ []
+  pub undone-sets : Sets (tickAt settings10 again (pos 100) request.Undo .state) new (waitingFor newer)
+  -- 14, where SS has no room for its reply: the write is not done, and what waited waits on
+  pub no-room :
+      Sets (lineTickOf settings10 waits (pos 0) false (line "SS000070000000000000000000000000000000000020") (0 ∷ 0 ∷ 0 ∷ []) .state) old
+      (waitingFor new)
+  -- seven noughts keep the rules, and wait as any other set does; the batch after them has no final
+  pub noughts : Sets (written openSetpoints) old (waitingFor openSetpoints)
+  pub noughts-read : reply settings10 (written openSetpoints) (pos 0) (line "RS") 44 ≡ line "000000000000000000000000000000000000000000"
+  pub noughts-next :
+      standing (stateAfter settings10 (leg 1 (pos 100) request.Start ∷ leg 1 (pos 100) request.Nothing ∷ []) (finishAt (pos 100) openSetpoints))
+      ≡ 0 ∷ 1 ∷ 0 ∷ 10 ∷ 1 ∷ []
   -- "RS reads the waiting set if there is one.": in 09, in the finishing tick, and after it
   pub read-waiting : reply settings10 waits (pos 0) (line "RS") 44 ≡ line "000050000000000000000000000000000000000020"
   pub read-finishing : reply settings10 (wentOn 10) (pos 100) (line "RS") 44 ≡ line "000050000000000000000000000000000000000020"

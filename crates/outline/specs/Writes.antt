@@ -1,12 +1,12 @@
--- Request A5: the waiting set, made of what each tick shows: the setpoints that it accepts, and whether its stage is 00 after it.
+-- Request A5: the waiting set, and the last accepted write of all, each worked out from what the ticks show: the setpoints that a tick
+-- accepts, and whether its stage is 00 after it.
 use mathlib.Core.Bool.{Bool, cond}
 use Rattle.types.specs.declared.settings.Settings.{Settings}
-use Rattle.types.specs.declared.stages.Setpoints.{Setpoints}
 use Rattle.types.specs.declared.stages.Write.{Write}
 use Rattle.types.specs.declared.stages.Write.the-variants as write
 use Rattle.types.specs.declared.machine.State.{State}
 use Rattle.types.specs.declared.machine.Input.{Input}
-use Rattle.outline.specs.Setpoints.{openSetpoints, writtenElse}
+use Rattle.outline.specs.Setpoints.{openSetpoints}
 use Rattle.outline.specs.Stages.{idleOf}
 use Rattle.outline.specs.Requests.{grantOf}
 use Rattle.outline.specs.Tick.{tickOf}
@@ -40,7 +40,7 @@ abbrev pub writtenSince : History PointsSeen → Write
 writtenSince start = write.Nothing
 writtenSince (h ▷ t) = cond (t .idle) write.Nothing (replaces (t .write) (writtenSince h))
 
--- the last accepted write of all, or the opening's setpoints
-abbrev pub writtenLast : History PointsSeen → Setpoints
-writtenLast start = openSetpoints
-writtenLast (h ▷ t) = writtenElse (t .write) (writtenLast h)
+-- the last accepted write of all; before any, the opening's setpoints
+abbrev pub writtenLast : History PointsSeen → Write
+writtenLast start = write.Points openSetpoints
+writtenLast (h ▷ t) = replaces (t .write) (writtenLast h)

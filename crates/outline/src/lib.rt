@@ -21,7 +21,8 @@ ghost use Rattle.outline.specs.EveryLine.{ReplyBounded, BytesStay, Answe
 ghost use Rattle.outline.specs.EveryLine.{TicketOnLine, NeverTogetherOnLine};
 ghost use Rattle.outline.specs.StaysTrue.{Balance, SumsOfHistory, NothingElse, ZeroInForce, TotalOfBatches, GatesShut, InRange};
 ghost use Rattle.outline.specs.StaysTrue.{Refusals, ReadBack, Ticket, BlocksAreRuns, LinesAreRuns, LogsAreRuns, NeverTogether};
-ghost use Rattle.outline.specs.StaysTrue.{DischargeIsNoBatch, FromRange, WaitingOfWrites, InUseStays, LatestOfWrites};
+ghost use Rattle.outline.specs.StaysTrue.{DischargeIsNoBatch, FromRange};
+ghost use Rattle.outline.specs.StaysTrue.{WaitingOfWrites, InUseStays, LatestOfWrites, WaitingAside, WriteAside};
 
 // The figures of the outline and the laws that the definitions owe. It does nothing: it stands here so that the check's list names
 // them, and misses them if a proof goes.
@@ -83,6 +84,8 @@ pub fn every_run()
     ensures waiting { λ r. ⌜ WaitingOfWrites ⌝ }
     ensures in_use { λ r. ⌜ InUseStays ⌝ }
     ensures latest { λ r. ⌜ LatestOfWrites ⌝ }
+    ensures waiting_aside { λ r. ⌜ WaitingAside ⌝ }
+    ensures write_aside { λ r. ⌜ WriteAside ⌝ }
 {}
 
 // What holds of every tick with a line, for whatever settings and state or for every run. It does nothing, and stands here as
