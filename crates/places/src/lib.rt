@@ -1,6 +1,7 @@
 // Numbers at a place of a buffer: read and written big-endian, signed ones in two's complement, a flag as a byte that is 0 or 1. A byte
 // past the end reads as 0 and is not written, so that nothing is asked of a caller.
 ghost use mathlib.Core.Path.{_≡_};
+ghost use Prim.Native.Nat.{min};
 ghost use lib.ListN.{length, getD, set, replicate};
 ghost use mir.Syntax.{w32, w64};
 ghost use Rattle.places.specs.Places.{beAt, putBe, signed, coded, flagOf, flagTag, zerosAt};
@@ -194,15 +195,29 @@ pub fn clear(s: &mut [u8])
     }
 }
 
-// Whether the n bytes from `at` on are 0. Every one is looked at, so that the compiler can compare many at once.
+fn least(a: usize, b: usize) -> usize
+    ensures { λ r. ⌜ r ≡ min a b ⌝ }
+{
+    if a < b {
+        return a;
+    }
+    b
+}
+
+// Whether the n bytes from `at` on are 0. Every one that is there is looked at, with no test of its place, so that the compiler compares
+// many at once.
 pub fn are_zero(s: &[u8], at: u16, n: u16) -> bool
     ensures { λ r. ⌜ r ≡ zerosAt n at (now (s .entry)) ⌝ }
 {
     let a = at as usize;
-    let end = n as usize;
+    let len = s.len();
+    if len <= a {
+        return true;
+    }
+    let end = least(n as usize, len - a);
     let mut zero = true;
     for i in 0..end {
-        zero = zero & (byte_at(s, a + i) == 0);
+        zero = zero & (s[a + i] == 0);
     }
     zero
 }
