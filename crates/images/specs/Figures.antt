@@ -88,12 +88,16 @@ mid = record {
 abbrev pub midBytes : List At
 midBytes =
     at 0 255 ∷ at 1 237 ∷ at 2 41 ∷ at 3 121 ∷ at 6 75 ∷ at 7 248 ∷ at 8 255 ∷ at 9 255 ∷ at 10 255 ∷ at 11 253 ∷ at 12 179 ∷ at 13 121
-    ∷ at 14 238 ∷ at 15 245 ∷ at 16 255 ∷ at 17 255 ∷ at 18 255 ∷ at 19 253 ∷ at 20 179 ∷ at 21 79 ∷ at 22 233 ∷ at 23 22 ∷ at 29 22 ∷ at 30 227
+    ∷ at 14 238 ∷ at 15 245 ∷ at 16 255 ∷ at 17 255 ∷ at 18 255 ∷ at 19 253 ∷ at 20 179 ∷ at 21 79 ∷ at 22 233 ∷ at 23 22
+    ∷ at 29 22 ∷ at 30 227
     ∷ at 31 96 ∷ at 33 131 ∷ at 34 214 ∷ at 36 1 ∷ at 37 1 ∷ at 40 1 ∷ at 42 1 ∷ at 43 43 ∷ at 44 255 ∷ at 45 255 ∷ at 46 255 ∷ at 47 244
-    ∷ at 48 255 ∷ at 49 255 ∷ at 50 255 ∷ at 51 253 ∷ at 54 4 ∷ at 55 206 ∷ at 58 1 ∷ at 62 117 ∷ at 63 48 ∷ at 67 200 ∷ at 70 19 ∷ at 71 136
+    ∷ at 48 255 ∷ at 49 255 ∷ at 50 255 ∷ at 51 253 ∷ at 54 4 ∷ at 55 206 ∷ at 58 1 ∷ at 62 117 ∷ at 63 48 ∷ at 67 200 ∷ at 70 19
+    ∷ at 71 136
     ∷ at 74 97 ∷ at 75 168 ∷ at 79 100 ∷ at 83 150 ∷ at 86 1 ∷ at 87 144 ∷ at 88 6 ∷ at 90 1 ∷ at 91 43 ∷ at 92 18 ∷ at 93 52 ∷ at 100 5
-    ∷ at 101 245 ∷ at 102 224 ∷ at 103 255 ∷ at 105 188 ∷ at 106 97 ∷ at 107 78 ∷ at 108 1 ∷ at 116 4 ∷ at 117 162 ∷ at 118 203 ∷ at 119 113 ∷ at 256 1
-    ∷ at 261 1 ∷ at 262 17 ∷ at 263 112 ∷ at 266 1 ∷ at 267 45 ∷ at 270 23 ∷ at 271 112 ∷ at 274 175 ∷ at 275 200 ∷ at 278 1 ∷ at 279 2 ∷ at 283 7
+    ∷ at 101 245 ∷ at 102 224 ∷ at 103 255 ∷ at 105 188 ∷ at 106 97 ∷ at 107 78 ∷ at 108 1 ∷ at 116 4 ∷ at 117 162 ∷ at 118 203
+    ∷ at 119 113 ∷ at 256 1
+    ∷ at 261 1 ∷ at 262 17 ∷ at 263 112 ∷ at 266 1 ∷ at 267 45 ∷ at 270 23 ∷ at 271 112 ∷ at 274 175 ∷ at 275 200 ∷ at 278 1
+    ∷ at 279 2 ∷ at 283 7
     ∷ at 286 3 ∷ at 287 232 ∷ []
 
 -- a batch in 09, many fields at the end of their range
@@ -149,7 +153,8 @@ idle = record {
 abbrev pub idleBytes : List At
 idleBytes =
     at 0 255 ∷ at 1 255 ∷ at 2 254 ∷ at 3 212 ∷ at 4 255 ∷ at 5 255 ∷ at 6 255 ∷ at 7 249 ∷ at 14 3 ∷ at 15 232 ∷ at 22 2 ∷ at 23 195
-    ∷ at 34 16 ∷ at 35 225 ∷ at 36 1 ∷ at 40 1 ∷ at 43 100 ∷ at 44 255 ∷ at 45 255 ∷ at 46 255 ∷ at 47 244 ∷ at 48 255 ∷ at 49 255 ∷ at 50 255
+    ∷ at 34 16 ∷ at 35 225 ∷ at 36 1 ∷ at 40 1 ∷ at 43 100 ∷ at 44 255 ∷ at 45 255 ∷ at 46 255 ∷ at 47 244 ∷ at 48 255 ∷ at 49 255
+    ∷ at 50 255
     ∷ at 51 244 ∷ at 57 99 ∷ at 62 3 ∷ at 63 232 ∷ at 67 20 ∷ at 74 1 ∷ at 75 44 ∷ at 79 5 ∷ at 83 5 ∷ at 87 10 ∷ at 95 1 ∷ at 101 1
     ∷ at 102 226 ∷ at 103 64 ∷ at 107 3 ∷ at 108 1 ∷ at 118 3 ∷ at 119 235 ∷ []
 
@@ -439,5 +444,6 @@ pub record Judged : Type 0 where
   -- what waits
   pub waiting-in-00 : under givenA (waits idle (points 1000 20 0 300)) ≡ false
   pub waiting-in-a-batch : under givenA (waits feeding (points 1000 20 0 300)) ≡ true
-  pub waiting-in-a-discharge : under givenA (waits (stands failed (stage.Discharge) 1 error.None judgement.Under) (points 1000 20 0 300)) ≡ true
+  pub waiting-in-a-discharge :
+      under givenA (waits (stands failed (stage.Discharge) 1 error.None judgement.Under) (points 1000 20 0 300)) ≡ true
   pub waiting-p-not-above-ff : under givenA (waits feeding (points 1000 20 20 300)) ≡ false

@@ -209,8 +209,8 @@ abbrev pub InUseStays : Type 0
 InUseStays = (s : Settings) (st : State) (i : Input) → idleOf (tickOf s st i .answer .stage) ≡ false
     → nextOf s st i .setpoints ≡ st .setpoints
 
--- ---- 17. A5: "It comes into use": the waiting set, or the set in use where none waits, is the last accepted write of the run; in 00 the set
--- in use is
+-- ---- 17. A5: "It comes into use": the waiting set, or the set in use where none waits, is the last accepted write of the run; in 00 the
+-- set in use is
 pub record Latest (s : Settings) (h : History Input) : Type 0 where
   pub read : write.Points (latestOf (runOf s h .setpoints) (runOf s h .waiting)) ≡ writtenLast (pointsRun s h)
   pub in-use : idleNow (runOf s h) ≡ true → write.Points (runOf s h .setpoints) ≡ writtenLast (pointsRun s h)

@@ -57,7 +57,8 @@ in11 = fed 3
 -- a write in 09, at 0
 abbrev pub written : Setpoints → State
 written p =
-    after (leg 1 (pos 0) (request.Set old) ∷ leg 1 (pos 0) request.Start ∷ leg 2 (pos 0) request.Nothing ∷ leg 1 (pos 0) (request.Set p) ∷ [])
+    after
+    (leg 1 (pos 0) (request.Set old) ∷ leg 1 (pos 0) request.Start ∷ leg 2 (pos 0) request.Nothing ∷ leg 1 (pos 0) (request.Set p) ∷ [])
 
 abbrev pub waits : State
 waits = written new
@@ -141,7 +142,8 @@ pub record Waited : Type 0 where
   pub noughts : Sets (written openSetpoints) old (waitingFor openSetpoints)
   pub noughts-read : reply settings10 (written openSetpoints) (pos 0) (line "RS") 44 ≡ line "000000000000000000000000000000000000000000"
   pub noughts-next :
-      standing (stateAfter settings10 (leg 1 (pos 100) request.Start ∷ leg 1 (pos 100) request.Nothing ∷ []) (finishAt (pos 100) openSetpoints))
+      standing
+      (stateAfter settings10 (leg 1 (pos 100) request.Start ∷ leg 1 (pos 100) request.Nothing ∷ []) (finishAt (pos 100) openSetpoints))
       ≡ 0 ∷ 1 ∷ 0 ∷ 10 ∷ 1 ∷ []
   -- "RS reads the waiting set if there is one.": in 09, in the finishing tick, and after it
   pub read-waiting : reply settings10 waits (pos 0) (line "RS") 44 ≡ line "000050000000000000000000000000000000000020"
