@@ -118,6 +118,10 @@ const char *untrue(const uint8_t *settings, const uint8_t *state, const uint8_t 
  * finish is judged by those before. `written` are those of an accepted write, else NULL. NULL, or what does not hold. */
 const char *astray(const struct lent *before, const struct lent *after, const uint32_t *written);
 
+/* What a call does with the zero: what a zero and a tare are told, where the zero moves and what is counted for it. With the contact closed
+ * neither a zero nor tracking moves it; of a line and a block that alone is asked. NULL, or what does not hold. */
+const char *displaced(const struct lent *before, const struct lent *after, const struct call *c);
+
 /* ---- At random, from a seed (test_random.c) ---- */
 
 void sow(uint64_t seed);

@@ -145,6 +145,148 @@ static void tracking(void)
     keeps(STATE_COUNTER, 8); /* at -20 at most: the tick at -25 that is not a move's counts as well */
 }
 
+/* ---- A tanker connected ---- */
+
+/* So many ticks at this count with the contact closed, after each of which nothing is counted. */
+static void hold_closed(int32_t count, int ticks)
+{
+    while (ticks-- > 0) {
+        told(tick(count, true, PRESSGULLY_NOTHING), 0, "a closed tick asked nothing");
+        keeps(STATE_COUNTER, 0);
+    }
+}
+
+/* Zero keyed during a refill with the pump paused, and again as the tanker is gone. Tracking is off. */
+static void zero_in_refill(void)
+{
+    open_a(SETTING_TRACKING_TIME, 0);
+    hold(0, 1);
+    hold_closed(1500, 101);
+    shows(ANSWER_STABLE, 1, "stable");
+    told(tick(1500, true, PRESSGULLY_ZERO), 8, "zero with the contact closed");
+    keeps(STATE_ZERO, 0);
+    shows(ANSWER_GROSS, 150, "gross after the zero told 8");
+    told(tick(1500, true, PRESSGULLY_TARE), 0, "tare with the contact closed");
+    keeps(STATE_TARE, 150);
+    told(tick(1500, true, PRESSGULLY_ZERO), 8, "zero beside a tare");
+    shows(ANSWER_NET, 0, "net after the zero told 8");
+    told(tick(1500, true, PRESSGULLY_TARE_CLEAR), 0, "tare clear with the contact closed");
+    keeps(STATE_TARE, 0);
+    told(tick(1521, true, PRESSGULLY_ZERO), 8, "zero, closed and not at rest"); /* 21 is more than 10·s */
+    shows(ANSWER_STABLE, 0, "stable after a change of 21");
+    told(tick(1521, true, PRESSGULLY_TARE), 4, "tare, closed and not at rest");
+    told(tick(1521, false, PRESSGULLY_ZERO), 4, "zero, open and not at rest");
+    told(tick(2001, true, PRESSGULLY_ZERO), 8, "zero, closed, not at rest and at 2,001");
+    hold_closed(2001, 100);
+    told(tick(2001, true, PRESSGULLY_ZERO), 8, "zero, closed and at 2,001");
+    told(tick(2001, false, PRESSGULLY_ZERO), 5, "zero, open and at 2,001");
+    told(tick(2000, true, PRESSGULLY_ZERO), 8, "zero, closed and at 2,000");
+    told(tick(2000, false, PRESSGULLY_ZERO), 0, "zero in the first open tick");
+    keeps(STATE_ZERO, 2000);
+    told(tick(1990, true, PRESSGULLY_ZERO), 8, "zero in the first closed tick");
+    keeps(STATE_ZERO, 2000);
+    keeps(STATE_CONTACT, 1);
+    keeps(STATE_REFILLED, 1990); /* 2,001, then -1 in a closed tick, 0 in the splash's, -10 in a closed one */
+    keeps(STATE_USED, 0);
+    told(tick(100, true, PRESSGULLY_START), 0, "start with the contact closed");
+    told(tick(100, true, PRESSGULLY_ZERO), 3, "zero in a stage, closed");
+    told(tick(2000001, true, PRESSGULLY_ZERO), 1, "zero in a bad tick, closed");
+    told(tick(102085, true, PRESSGULLY_ZERO), 2, "zero in overload, closed");
+}
+
+/* No other request is told 8. */
+static void others_in_refill(void)
+{
+    uint32_t request;
+
+    open_with(settings_a);
+    memset(on.points, 0, sizeof on.points);
+    for (request = PRESSGULLY_TARE_CLEAR; request <= PRESSGULLY_DISCHARGE; request++)
+        told(tick(0, true, request), request == PRESSGULLY_UNDO ? 7 : 0, "a request with the contact closed");
+    told(tick(0, true, PRESSGULLY_ZERO), 3, "zero in a discharge, closed");
+    told(tick(0, true, PRESSGULLY_STOP), 0, "stop with the contact closed");
+    told(tick(0, true, PRESSGULLY_ZERO), 8, "zero with the contact closed");
+}
+
+/* The counter after each tick: closed ones make it 0, and the zero moves at the 100th open tick after the last of them. */
+static void counts_open_ticks(void)
+{
+    open_with(settings_a);
+    hold(3, 99);
+    keeps(STATE_COUNTER, 99);
+    hold_closed(3, 1); /* which would have moved it */
+    keeps(STATE_ZERO, 0);
+    hold(3, 40);
+    keeps(STATE_COUNTER, 40);
+    told(tick(3, true, PRESSGULLY_ZERO), 8, "zero with the contact closed");
+    keeps(STATE_COUNTER, 0);
+    hold(3, 1);
+    keeps(STATE_COUNTER, 1);
+    hold(3, 98);
+    keeps(STATE_COUNTER, 99);
+    keeps(STATE_ZERO, 0);
+    hold(3, 1);
+    keeps(STATE_COUNTER, 0);
+    keeps(STATE_ZERO, 3);
+    keeps(STATE_TRACKED, 3);
+    hold_closed(5, 250);
+    keeps(STATE_ZERO, 3);
+    keeps(STATE_TRACKED, 3);
+    told(tick(5, true, PRESSGULLY_ZERO), 8, "zero with something tracked");
+    keeps(STATE_ZERO, 3);
+    keeps(STATE_TRACKED, 3);
+    hold(5, 50);
+    told(tick(2000001, true, PRESSGULLY_NOTHING), 0, "a bad closed tick");
+    keeps(STATE_COUNTER, 0);
+    hold(5, 99);
+    keeps(STATE_ZERO, 3);
+    hold(5, 1);
+    keeps(STATE_ZERO, 5);
+    keeps(STATE_TRACKED, 5);
+}
+
+/* Blocks are their ticks here too. An image with a counter and the contact closed is one from before request A6, and still one: it goes on
+ * counting where the contact is open now. */
+static void counts_in_blocks(void)
+{
+    static int32_t fours[250];
+    struct call closed = block_call(fours, 250, true), open = block_call(fours, 99, false), none = block_call(fours, 0, true);
+    int i;
+
+    for (i = 0; i < 250; i++)
+        fours[i] = 4;
+    open_with(settings_a);
+    told(run(&on, &closed), 0, "a closed block");
+    keeps(STATE_COUNTER, 0);
+    keeps(STATE_ZERO, 0);
+    told(run(&on, &open), 0, "an open block");
+    keeps(STATE_COUNTER, 99);
+    told(run(&on, &none), 0, "an empty block");
+    keeps(STATE_COUNTER, 99);
+    closed.counts_len = 1;
+    told(run(&on, &closed), 0, "a closed block of one");
+    keeps(STATE_COUNTER, 0);
+    keeps(STATE_ZERO, 0);
+    put_state(on.state, STATE_COUNTER, 98); /* beside the contact closed */
+    hold(4, 1);
+    keeps(STATE_COUNTER, 99);
+    keeps(STATE_ZERO, 0);
+    hold(4, 1);
+    keeps(STATE_ZERO, 4);
+    hold_closed(4, 1);
+    put_state(on.state, STATE_COUNTER, 99);
+    hold_closed(6, 1);
+    keeps(STATE_ZERO, 4);
+}
+
+static void connected(void)
+{
+    zero_in_refill();
+    others_in_refill();
+    counts_open_ticks();
+    counts_in_blocks();
+}
+
 /* The outline's ticket, with the last splash of request A2. */
 static void days(void)
 {
@@ -687,6 +829,7 @@ void test_figures(void)
     weights();
     zero_and_tare();
     tracking();
+    connected();
     days();
     batch();
     full_totals(99998999, 99999998, true);

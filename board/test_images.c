@@ -153,6 +153,9 @@ static const char *goes_on(struct lent *l)
             return "refused an image that it wrote";
         if (!o.kept)
             return "changed what it may not";
+        fault = displaced(&before, l, &c);
+        if (fault != NULL)
+            return fault;
         if (c.kind == BLOCK) { /* has no answer */
             if (!is_possible(l->settings, l->state))
                 return "a field is out of its range after a block";

@@ -385,6 +385,58 @@ static void requests(void)
     }
 }
 
+/* Every choice of what a zero, a tare and a tare clear are refused for: a zero with the contact closed is told 8 after 3 and before 4, the
+ * others never. What is refused is a tick that is asked nothing. */
+static void zeros_and_tares(void)
+{
+    enum { BAD = 1, OVERLOAD = 2, STAGE = 4, CLOSED = 8, UNSTABLE = 16, OUTSIDE = 32, CHOICES = 64 };
+    uint32_t request;
+    unsigned chosen;
+
+    for (request = PRESSGULLY_ZERO; request <= PRESSGULLY_TARE_CLEAR; request++)
+        for (chosen = 0; chosen < CHOICES; chosen++) {
+            const bool weighs = request != PRESSGULLY_TARE_CLEAR, closed = (chosen & CLOSED) != 0;
+            const int32_t raw = chosen & OVERLOAD ? 100085 : chosen & OUTSIDE ? -2005 : 1000, count = chosen & BAD ? 2000001 : raw;
+            struct lent l, nothing;
+            struct call c = tick_call(count, closed, request), none = tick_call(count, closed, PRESSGULLY_NOTHING);
+            struct outcome o, asked_nothing;
+            uint32_t due = 0;
+            bool held;
+
+            lend_a(&l);
+            put_stage(&l, chosen & STAGE ? 3 : 0);
+            put_state(l.state, STATE_OPENING, raw); /* the raw of the tick before, and so no change in this one */
+            put_state(l.state, STATE_LAST, raw);
+            put_state(l.state, STATE_RUN, chosen & UNSTABLE ? 98 : 99);
+            put_state(l.state, STATE_CONTACT, !closed);
+            if (weighs && chosen & OUTSIDE)
+                due = 5;
+            if (weighs && chosen & UNSTABLE)
+                due = 4;
+            if (request == PRESSGULLY_ZERO && closed)
+                due = 8;
+            if (chosen & STAGE)
+                due = 3;
+            if (weighs && chosen & OVERLOAD && !(chosen & BAD)) /* a bad tick has none */
+                due = 2;
+            if (weighs && chosen & BAD)
+                due = 1;
+            nothing = l;
+            o = run(&l, &c);
+            asked_nothing = run(&nothing, &none);
+            held = o.kept && asked_nothing.kept && o.told == due && l.answer[0] == due && asked_nothing.told == 0;
+            if (due == 0 && request == PRESSGULLY_ZERO)
+                held = held && state_number(l.state, STATE_ZERO) == 1000;
+            if (due == 0 && request == PRESSGULLY_TARE)
+                held = held && state_number(l.state, STATE_TARE) == 100;
+            if (due != 0)
+                held = held && memcmp(l.state, nothing.state, PRESSGULLY_STATE) == 0
+                    && memcmp(l.answer + 1, nothing.answer + 1, PRESSGULLY_ANSWER - 1) == 0;
+            check(held, "order: request %u with faults %02x is told %u instead of %u", (unsigned)request, chosen, (unsigned)o.told,
+                  (unsigned)due);
+        }
+}
+
 /* ---- Buffers ---- */
 
 static void answer_buffers(void)
@@ -409,21 +461,21 @@ static void answer_buffers(void)
 }
 
 /* The line with a reply buffer of every length: the reply, or told 14 and a tick that was asked nothing. */
-static void reply_buffers(const char *line, uint32_t told, const char *reply)
+static void reply_buffers_at(bool contact, const char *line, uint32_t told, const char *reply)
 {
     const size_t due = strlen(reply);
     size_t room;
 
     for (room = 0; room <= 96; room++) {
         struct lent l, nothing;
-        struct call c, none = tick_call(0, false, PRESSGULLY_NOTHING);
+        struct call c, none = tick_call(0, contact, PRESSGULLY_NOTHING);
         struct outcome o;
         bool held;
 
         lend_a(&l);
         nothing = l;
         run(&nothing, &none);
-        c = line_call(&l, 0, false, line);
+        c = line_call(&l, 0, contact, line);
         c.reply_len = room;
         o = run(&l, &c);
         held = o.kept && o.told == (room < due ? 14 : told) && answer_number(l.answer, ANSWER_REPLIED) == (int64_t)(room < due ? 0 : due);
@@ -434,6 +486,11 @@ static void reply_buffers(const char *line, uint32_t told, const char *reply)
             held = held && memcmp(l.reply, reply, due) == 0;
         check(held, "order: line %s with a reply buffer of %u bytes: told %u", line, (unsigned)room, (unsigned)o.told);
     }
+}
+
+static void reply_buffers(const char *line, uint32_t told, const char *reply)
+{
+    reply_buffers_at(false, line, told, reply);
 }
 
 static void blocks(void)
@@ -460,9 +517,13 @@ void test_order(void)
     settings_rows();
     judged_as_given();
     requests();
+    zeros_and_tares();
     answer_buffers();
     reply_buffers("BB", 0, "BB\r\n");
     reply_buffers("MZ", 4, "NG04\r\n");
+    reply_buffers_at(true, "MZ", 8, "NG08\r\n");
+    reply_buffers_at(true, "MT", 4, "NG04\r\n");
+    reply_buffers_at(true, "CT", 0, "CT\r\n");
     reply_buffers("RW", 0, "US,GS,+0000000kg\r\n");
     reply_buffers("RT", 0, "00000000,00000000\r\n");
     reply_buffers("RS", 0, "000000000000000000000000000000000000000000\r\n");

@@ -58,6 +58,25 @@ static void note_return(const struct lent *before, const struct lent *after)
         came_by_finish = true;
 }
 
+/* What the runs met of zeros and tracking with the contact closed: what zeros were told, and 8 at rest; a tare that was done; ticks
+ * after one that was counted, and one of them that would have been the last of the tracking time. */
+static bool zero_told[9], zero_told_at_rest, tare_done, counted_before, counted_to_last;
+
+static void note_zero(const struct lent *before, const struct lent *after, const struct call *c)
+{
+    const int64_t counter = state_number(before->state, STATE_COUNTER), q = setting(before->settings, SETTING_TRACKING_TIME);
+    const uint8_t told = after->answer[0];
+
+    if (!c->contact)
+        return;
+    if (c->request == PRESSGULLY_ZERO && told < sizeof zero_told)
+        zero_told[told] = true;
+    zero_told_at_rest = zero_told_at_rest || (c->request == PRESSGULLY_ZERO && told == 8 && after->answer[3] == 1);
+    tare_done = tare_done || (c->request == PRESSGULLY_TARE && told == 0);
+    counted_before = counted_before || (counter > 0 && counter < q - 1);
+    counted_to_last = counted_to_last || (counter > 0 && counter == q - 1);
+}
+
 /* The tick by number and by line, and, asked nothing, as a block of one: the same image, the same outputs. l goes on with the first. */
 static bool is_one(struct lent *l, const struct call *c)
 {
@@ -105,7 +124,10 @@ static void plant_run(int number, int ticks)
         fault = untrue(l.settings, l.state, l.answer);
         if (fault == NULL)
             fault = astray(&before, &l, c.request == PRESSGULLY_SET && l.answer[0] == 0 ? l.points : NULL);
+        if (fault == NULL)
+            fault = displaced(&before, &l, &c);
         note_return(&before, &l);
+        note_zero(&before, &l, &c);
         keep_worth(&l);
     }
     check(held && fault == NULL, "runs: run %d differs at tick %d: %s", number, i, fault == NULL ? "by number and by line" : fault);
@@ -193,6 +215,8 @@ static void altered_bytes(void)
     check(came_by_finish && came_by_discharge, "runs: no setpoints came into use by a finish, or by the end of a discharge");
     for (i = STAGES + ERRORS; i < STAGES + ERRORS + 6; i++)
         check(is_kept[i], "runs: no run had a refill, an undo, a tracked zero, a tare, or setpoints waiting in a batch or a discharge (%u)", i);
+    check(zero_told[3] && zero_told[8] && zero_told_at_rest && tare_done && counted_before && counted_to_last,
+          "runs: with the contact closed no zero was told 3, or 8 at rest, no tare was done, or no tick was counted before");
     for (i = 0; i < sizeof altered / sizeof altered[0]; i++)
         for (place = 0; place < PRESSGULLY_STATE; place++)
             alter_byte(&kept[altered[i]], altered[i], place, &taken, &all);

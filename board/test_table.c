@@ -280,6 +280,8 @@ const char *untrue(const uint8_t *settings, const uint8_t *state, const uint8_t 
         return "tracked passes the allowance";
     if (!is_possible(settings, state))
         return "a field is out of its range";
+    if (state[37] == 1 && state_number(state, STATE_COUNTER) != 0)
+        return "the tracking counter is not 0 after a tick with the contact closed";
     if (answer[10] != 0 && (feed || discharge))
         return "a gate is open on an error";
     if (feed && discharge)
@@ -306,6 +308,96 @@ const char *untrue(const uint8_t *settings, const uint8_t *state, const uint8_t 
         && answer_number(answer, ANSWER_OPENING) + answer_number(answer, ANSWER_REFILLED) - answer_number(answer, ANSWER_USED)
                    - answer_number(answer, ANSWER_UNBOOKED) != answer_number(answer, ANSWER_CLOSING))
         return "the closed day does not balance";
+    return NULL;
+}
+
+/* Tenths to divisions, "rounded to nearest, halves away from zero". */
+static int64_t divisions(int64_t tenths)
+{
+    const int64_t rounded = (without_sign(tenths) + 5) / 10;
+
+    return tenths < 0 ? -rounded : rounded;
+}
+
+/* What a tick weighs under the zero before it. A good tick's raw is the last one after it. */
+struct weighed {
+    int64_t raw, fine;
+    bool good, overload, in_range;
+};
+
+static struct weighed weighed_of(const struct lent *before, const struct lent *after)
+{
+    const uint8_t *settings = before->settings;
+    struct weighed w;
+
+    w.raw = state_number(after->state, STATE_LAST);
+    w.fine = w.raw - state_number(before->state, STATE_ZERO);
+    w.good = after->answer[1] == 1;
+    w.overload = w.good && without_sign(divisions(w.fine)) > setting(settings, SETTING_CAPACITY) + 8;
+    w.in_range = 10 * without_sign(w.raw) <= setting(settings, SETTING_CAPACITY) * setting(settings, SETTING_ZERO_RANGE);
+    return w;
+}
+
+/* What a zero or a tare is told: the first of 1, 2, 3, then 8, which is a zero's alone, 4 and 5. */
+static uint32_t weighing_told(const struct lent *before, const struct lent *after, const struct call *c)
+{
+    const struct weighed w = weighed_of(before, after);
+    const bool zero = c->request == PRESSGULLY_ZERO;
+
+    if (!w.good)
+        return 1;
+    if (w.overload)
+        return 2;
+    if (before->state[88] != 0)
+        return 3;
+    if (zero && c->contact)
+        return 8;
+    if (after->answer[3] == 0)
+        return 4;
+    return (zero ? w.in_range : within(divisions(w.fine), 0, setting(before->settings, SETTING_CAPACITY))) ? 0 : 5;
+}
+
+/* Step 5 after a tick's request: counter, zero and tracked sum that are due. */
+static bool tracking_fits(const struct lent *before, const struct lent *after, const struct call *c)
+{
+    const struct weighed w = weighed_of(before, after);
+    const int64_t q = setting(before->settings, SETTING_TRACKING_TIME), width = setting(before->settings, SETTING_TRACKING_WIDTH);
+    const bool done = after->answer[0] == 0, zeroed = c->request == PRESSGULLY_ZERO && done;
+    const bool begins = (c->request == PRESSGULLY_START || c->request == PRESSGULLY_DISCHARGE) && done;
+    const bool resting = !begins && (before->state[88] == 0 || c->request == PRESSGULLY_STOP); /* as step 4 leaves the stage */
+    const bool counts = w.good && !w.overload && resting && !zeroed && !c->contact;
+    int64_t counter = state_number(before->state, STATE_COUNTER), zero = state_number(before->state, STATE_ZERO);
+    int64_t tracked = state_number(before->state, STATE_TRACKED);
+
+    if (zeroed) {
+        zero = w.raw;
+        tracked = 0;
+    }
+    counter = q != 0 && width != 0 && counts && without_sign(w.fine) <= width ? counter + 1 : 0;
+    if (counter != 0 && counter == q) {
+        counter = 0;
+        if (w.in_range && without_sign(tracked + w.fine) <= setting(before->settings, SETTING_ALLOWANCE)) {
+            zero = w.raw;
+            tracked += w.fine;
+        }
+    }
+    return state_number(after->state, STATE_COUNTER) == counter && state_number(after->state, STATE_ZERO) == zero
+        && state_number(after->state, STATE_TRACKED) == tracked;
+}
+
+const char *displaced(const struct lent *before, const struct lent *after, const struct call *c)
+{
+    const bool ticked = c->kind == TICK || c->kind == LINE || (c->kind == BLOCK && c->counts_len > 0);
+
+    if (ticked && c->contact
+        && (memcmp(before->state + 44, after->state + 44, 8) != 0 || state_number(after->state, STATE_COUNTER) != 0))
+        return "zero, tracked sum or counter after a tick with the contact closed";
+    if (c->kind != TICK)
+        return NULL;
+    if ((c->request == PRESSGULLY_ZERO || c->request == PRESSGULLY_TARE) && after->answer[0] != weighing_told(before, after, c))
+        return "a zero or a tare is not told what is due";
+    if (!tracking_fits(before, after, c))
+        return "zero, tracked sum or counter are not those due";
     return NULL;
 }
 

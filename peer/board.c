@@ -1,6 +1,6 @@
 /* The calls of board/pressgully.h over the peer's controller: images in, a tick or a
  * block of them by controller.c, images out.  docs/IMAGES.md has the places; the
- * ranges are those of the outline, the requests A1 to A3 and A5 and READINGS.md.
+ * ranges are those of the outline, the requests A1 to A3, A5 and A6 and READINGS.md.
  *
  * Nothing is written before the last test has passed, so a refused call leaves every
  * byte of every buffer. */
@@ -290,7 +290,9 @@ static bool possible_zero(const struct given *g, const struct state *st)
 }
 
 /* Tracking is off if q or w is 0: then nothing is counted, and nothing ever moved.
- * Only a good tick in stage 00 is counted, and step 6 does not lead out of that. */
+ * Only a good tick in stage 00 is counted, and step 6 does not lead out of that.  The
+ * contact is not asked: closed ticks were counted before request A6, and what was
+ * written then stays readable. */
 static bool possible_tracking(const struct given *g, const struct state *st)
 {
     const int64_t q = setting(g, GIVEN_TRACKING_TIME), w = setting(g, GIVEN_TRACKING_WIDTH);

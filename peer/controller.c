@@ -88,7 +88,7 @@ int open_controller(const struct given *g, struct settings *s, struct state *st)
 
 /* ---- From count to weight ------------------------------------------------ */
 
-/* What one tick knows of its weight. */
+/* What one tick knows: its weight, and whether the tanker is connected. */
 struct weighing {
     int32_t raw;         /* tenths; of a good tick */
     int32_t fine;        /* gross fine, tenths */
@@ -98,6 +98,7 @@ struct weighing {
     bool good;
     bool overload;
     bool stable;
+    bool contact;        /* the refill contact is closed in this tick */
 };
 
 static inline int32_t magnitude(int32_t x)
@@ -225,6 +226,7 @@ static inline void take_count(const struct settings *s, struct state *st, int32_
 
     w->good = within(count, -COUNT_LIMIT, COUNT_LIMIT);
     w->raw = w->good ? raw_of(s, count) : 0;
+    w->contact = contact;
 
     in_day = count_day_tick(st);
     if (w->good)
@@ -243,8 +245,10 @@ static inline bool in_zero_range(const struct settings *s, int32_t raw)
 }
 
 /* Step 5.  The counter adds one at a tick that is good, not overloaded, in stage
- * 00, without an accepted zero, with |gross fine| at most w; any other tick makes
- * it 0.  At q it returns to 0, and the zero moves to raw if both rules allow. */
+ * 00, without an accepted zero, with the contact open and |gross fine| at most w; any
+ * other tick makes it 0.  At q it returns to 0, and the zero moves to raw if both rules
+ * allow.  So no zero moves while the tanker is connected, and what was counted before
+ * is not counted on after it: the next move comes q open ticks later at the earliest. */
 static inline void track(const struct settings *s, struct state *st, const struct weighing *w,
                   bool zeroed)
 {
@@ -253,7 +257,7 @@ static inline void track(const struct settings *s, struct state *st, const struc
     if (s->tracking_time == 0)
         return;
     if (!w->good || w->overload || st->stage != 0 || zeroed
-        || magnitude(w->fine) > s->tracking_width) {
+        || w->contact || magnitude(w->fine) > s->tracking_width) {
         st->tracking_count = 0;
         return;
     }
@@ -316,7 +320,10 @@ static const struct setpoints *last_written(const struct state *st)
 
 /* ---- Requests and their answers ------------------------------------------ */
 
-/* The first refusal that applies, in numerical order, or 0. */
+/* The first refusal that applies, in numerical order, or 0.  8 alone is out of its
+ * order: it stands between 3 and 4, so that a zero keyed with the tanker connected is
+ * told that, also before the weight is at rest.  The contact asked is this tick's: the
+ * first open tick may be zeroed, though its splash still belongs to the refill. */
 static int refusal(const struct settings *s, const struct state *st, const struct weighing *w,
                    const struct request *r)
 {
@@ -329,6 +336,8 @@ static int refusal(const struct settings *s, const struct state *st, const struc
             return ANSWER_OVERLOAD;
         if (st->stage != 0)
             return ANSWER_STAGE;
+        if (r->kind == REQUEST_ZERO && w->contact)
+            return ANSWER_CONTACT;
         if (!w->stable)
             return ANSWER_UNSTABLE;
         if (r->kind == REQUEST_ZERO ? !in_zero_range(s, w->raw)

@@ -1,7 +1,7 @@
 /* A weighing and batching controller: one scale, normal and loss-in-weight
  * batching, discharge, one total, day book, serial commands, analog value.
- * Written by hand from the outline (01-scope.md), the change requests A1, A2
- * and A5 and READINGS.md alone.
+ * Written by hand from the outline (01-scope.md), the change requests A1, A2, A5
+ * and A6 and READINGS.md alone.
  *
  * A tick is 1/100 s.  A tenth is a tenth of a division.  No allocation and no
  * globals: the caller owns settings and state, and passes them by pointer. */
@@ -22,6 +22,7 @@ enum {
     ANSWER_OUTSIDE = 5,
     ANSWER_SETPOINTS = 6,
     ANSWER_NO_UNDO = 7,
+    ANSWER_CONTACT = 8,          /* a zero with the refill contact closed; between 3 and 4 */
     ANSWER_MODE = 9,             /* a discharge in mode 2 */
     ANSWER_SETTINGS = 10,
     ANSWER_FORM = 11,
@@ -157,7 +158,7 @@ struct request {
 };
 
 struct outcome {
-    int number;                  /* 0 done or nothing asked, else 1..7 or 9 */
+    int number;                  /* 0 done or nothing asked, else 1..9 */
 };
 
 /* A day that was ended, tenths. */

@@ -186,6 +186,10 @@ static void vessel(struct scenario *s)
             p.contact = true;
             idle(s, &p, ticks);
             p.leak = 0;
+            if (once_in(3)) {                   /* the pump is paused, and somebody keys zero */
+                settle(s, &p);
+                ask(s, &p, "MZ");
+            }
             shut_valve(s, &p);
         }
         settle(s, &p);
@@ -639,7 +643,7 @@ static void impatient(struct scenario *s)
 /* ---- Weights ---- */
 
 /* An idle tank under tracking: steps of the width and of a tenth more, held for the tracking time and a tick less or more, mostly
- * one way, up to the allowance or the zero range and beyond. */
+ * one way, up to the allowance or the zero range and beyond. A tanker is seldom connected, since nothing is tracked then. */
 static void idle_tank(struct scenario *s)
 {
     struct given g = settings_of(usual_mode());
@@ -655,10 +659,11 @@ static void idle_tank(struct scenario *s)
     s->writes = usual_writes();
     warm_up(s, &p);
     p.stray = ONE_OF(0, 0, 60);
+    p.bounce = ONE_OF(0, 0, 0, 60);
     while (more(s)) {
         int32_t change = once_in(3) ? between(0, w) : ONE_OF(w, w, w + 1);
         p.weight = (s->state.zero + way * change * (once_in(back) ? -1 : 1)) * (int64_t)1000;
-        p.contact = once_in(5);
+        p.contact = once_in(8);
         idle(s, &p, q + ONE_OF(-1, 0, 0, 1));
         if (once_in(10))
             pass(s, &p, any_command(s));
@@ -698,7 +703,8 @@ static void feeding_tank(struct scenario *s)
     }
 }
 
-/* Zero and tare at the ends of what is allowed, asked for when the weight has been at rest for k ticks, one less, one more. */
+/* Zero and tare at the ends of what is allowed, asked for when the weight has been at rest for k ticks, one less, one more. A tanker may be
+ * connected while it comes to rest, in the very tick of the request, or both; a zero is then keyed once more as it is gone. */
 static void zero_and_tare(struct scenario *s)
 {
     static const char *const after[] = {"MN", "MG", "CT", "RW", "BB", "DC", "MZ", "MT"};
@@ -709,7 +715,7 @@ static void zero_and_tare(struct scenario *s)
     s->writes = usual_writes();
     const int32_t width = s->settings.stability_width, range = s->settings.zero_range / 10, c = s->settings.capacity;
     while (more(s)) {
-        bool zero = once_in(2);
+        const bool zero = once_in(2), before = once_in(4), now = once_in(3);
         int64_t tenths = ONE_OF(range, range, range + 1, range - 1, range / 2);
         if (!zero)
             tenths = tenths_of_divisions(s, ONE_OF(-1, 0, 0, 1, c, c, c + 1, c + 8, c + 9, -c - 8, -c - 9));
@@ -720,14 +726,76 @@ static void zero_and_tare(struct scenario *s)
         int32_t broken = once_in(4) ? between(1, ticks) : 0;
         for (int32_t i = ticks; i > 0; i--) {
             int32_t away = i % 2 == 0 ? 0 : once_in(2) ? width : -width;
-            step(s, count_of(s, tenths + away + (i == broken ? ONE_OF(-1, 1) : 0)), false, NONE);
+            step(s, count_of(s, tenths + away + (i == broken ? ONE_OF(-1, 1) : 0)), before, NONE);
         }
         int32_t count = once_in(15) ? bad_count() : count_of(s, tenths);
-        step(s, count, false, command(s, zero ? "MZ" : "MT"));
-        for (int32_t i = between(0, 3); i > 0; i--)
-            step(s, count_of(s, tenths), false, command(s, after[between(0, (int32_t)LENGTH(after) - 1)]));
+        step(s, count, now, command(s, zero ? "MZ" : "MT"));
+        if (zero && now && once_in(2))
+            step(s, count_of(s, tenths), false, command(s, "MZ"));
+        for (int32_t i = between(0, 3); i > 0; i--) {
+            bool contact = once_in(4);
+            step(s, count_of(s, tenths), contact, command(s, after[between(0, (int32_t)LENGTH(after) - 1)]));
+        }
         if (s->out.stage != 0)
             step(s, count_of(s, tenths), false, command(s, "HB"));
+    }
+}
+
+/* Tenths for a while: within the tracking width of the zero mostly, else at an end of the zero range, a tenth beyond, or anything on the
+ * scale. */
+static int64_t paused_weight(const struct scenario *s)
+{
+    const int32_t width = s->settings.tracking_width, range = s->settings.zero_range / 10;
+
+    if (once_in(6))
+        return ONE_OF(range, range + 1, -range, -range - 1);
+    if (once_in(6))
+        return tenths_of_divisions(s, between(-1, s->settings.capacity));
+    return s->state.zero + (once_in(3) ? ONE_OF(-width, width) : between(-width, width));
+}
+
+/* One tick at a paused refill: asked, as the contact turns or now and then, mostly for a zero. The scale may fail or be overloaded in it,
+ * the contact saying anything. */
+static void paused_tick(struct scenario *s, int64_t tenths, bool contact, bool turns)
+{
+    static const char *const letters[] = {"MZ", "MZ", "MZ", "MZ", "MZ", "MZ", "MT", "MT", "CT", "BB", "BD", "HB", "RW", "DC"};
+    const bool fails = once_in(turns ? 10 : 40), asks = once_in(fails || s->out.stage != 0 ? 2 : turns ? 3 : 12);
+    struct line request = asks ? command(s, letters[between(0, (int32_t)LENGTH(letters) - 1)]) : NONE;
+    int32_t count = count_of(s, tenths);
+
+    if (fails) {
+        contact = once_in(2);
+        count = once_in(2) ? bad_count() : heavy_count(s);
+    }
+    step(s, count, contact, request);
+}
+
+/* A tanker is connected to a tank that is calm, and gone again, for a tick or for some, at any tick of the tracking time and often at its
+ * last. The reply buffer may have room for what is done, but not for NG. */
+static void paused_refill(struct scenario *s)
+{
+    struct given g = settings_of(usual_mode());
+    const int32_t q = once_in(12) ? 0 : ONE_OF(1, 2, 3, 3, 5, 8), w = once_in(12) ? 0 : ONE_OF(1, 5, 10, 45);
+    const int32_t least_room = g.value[ADDRESS] == 0 ? 4 : 7;
+    bool contact = once_in(2);
+
+    g.value[TRACKING_TIME] = q;
+    g.value[TRACKING_WIDTH] = w;
+    g.value[ALLOWANCE] = once_in(2) ? ONE_OF(w, 3 * w, 12 * w) : 10000;
+    g.value[STABLE_TIME] = ONE_OF(10, 10, 12);
+    g.value[START_DELAY] = ONE_OF(0, 2, 5);
+    g.value[DISCHARGE_START] = ONE_OF(0, 2, 5);
+    g.value[DISCHARGE_LIMIT] = between(2, 8);
+    begin(s, &g, once_in(6) ? least_room : usual_room(), between(800, 1600));
+    while (more(s)) {
+        const int64_t tenths = paused_weight(s);
+        const int32_t stays = ONE_OF(1, 1, 2, 4, 12);           /* closed ticks, about */
+        for (int32_t i = once_in(3) ? between(1, q + 2) : s->settings.stability_time + between(0, q + 4); i > 0; i--) {
+            const bool last = q > 0 && s->state.tracking_count == q - 1;
+            const bool turns = once_in(contact ? stays : last ? 3 : 8);
+            contact = contact != turns;
+            paused_tick(s, tenths, contact, turns);
+        }
     }
 }
 
@@ -865,9 +933,9 @@ static const struct kind first[] = {
 static const struct kind turns[] = {
     {"hopper", hopper}, {"vessel", vessel}, {"comparisons", comparisons}, {"faults", faults}, {"short reply", short_reply},
     {"impatient", impatient}, {"idle tank", idle_tank}, {"feeding tank", feeding_tank}, {"zero and tare", zero_and_tare},
-    {"sweep", sweep}, {"short reply", short_reply}, {"emptied hopper", emptied_hopper}, {"discharges", discharges},
-    {"discharges", discharges}, {"noisy line", noisy_line}, {"large total", large_total}, {"wild", wild}, {"impatient", impatient},
-    {"short reply", short_reply},
+    {"paused refill", paused_refill}, {"sweep", sweep}, {"short reply", short_reply}, {"emptied hopper", emptied_hopper},
+    {"discharges", discharges}, {"discharges", discharges}, {"noisy line", noisy_line}, {"large total", large_total}, {"wild", wild},
+    {"impatient", impatient}, {"short reply", short_reply},
 };
 
 /* Only in a long run, once. */

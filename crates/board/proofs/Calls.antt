@@ -20,7 +20,9 @@ use Rattle.outline.specs.Limits.{blockLimit}
 use Rattle.outline.specs.Settings.{settingsFit, settingsOf, openOf}
 use Rattle.outline.specs.Setpoints.{noneWaiting}
 use Rattle.outline.specs.Numbers.{openingNumber}
-use Rattle.outline.specs.Tick.{nextOf, tickOf, countIn, blockOf, unaskedOf}
+use Rattle.settings.specs.Held.{Held}
+use Rattle.outline.specs.StaysTrue.{earlierTick}
+use Rattle.outline.specs.Tick.{openState, nextOf, tickOf, countIn, blockOf, unaskedOf}
 use Rattle.outline.specs.Replies.{askedOf, dueText, lineTickOf}
 use Rattle.outline.proofs.Parts.{clash}
 use Rattle.outline.proofs.LineBytes.{reply-bounded}
@@ -35,13 +37,14 @@ use Rattle.images.proofs.Earlier.{grows, earlier-read}
 use Rattle.images.proofs.Decided.{range-passes}
 use Rattle.outline.proofs.RangeRun.{run-in}
 use Rattle.outline.proofs.BookRun.{balance-law}
+use Rattle.outline.proofs.EarlierRun.{earlier-keeps}
 use Rattle.images.proofs.GivenTrip.{given-back}
 use Rattle.images.proofs.Trip.{one-image}
 use Rattle.images.proofs.FromImages.{runs-pass, from-images}
 use Rattle.board.specs.AnswerImage.{answerLength, lengthByte}
 use Rattle.board.proofs.Cases.{made-of, state-passes, is-done, grow-good}
 use Rattle.board.specs.Board.{imagesRefusal, callRefusal, givenBy, settingsBy, stateBy, refusalBy, lengthRefusal, openAnswer, openImage, earlierBy, growAnswer, growImage, ifRoom, inputBy, tickBy, tickImage, lineBy, lineImage, blockBy, blockImage}
-use Rattle.board.specs.Owed.{Call, tick, line, block, imageAfter, imageRun, ticksOf, stateRun, historyOf, CallsAreTicks, OpensARun, CallsAreRuns, GrowsPass, GrowsARun, LengthTold}
+use Rattle.board.specs.Owed.{Call, tick, line, block, imageAfter, imageRun, ticksOf, stateRun, historyOf, CallsAreTicks, OpensARun, CallsAreRuns, GrowsPass, GrownBack, GrowsARun, GrowsEarlier, LengthTold}
 
 -- ---- what is not refused: settings that were accepted, and a state that its image gives back
 record Passed (l t : List ℕ) : Type 0 where
@@ -221,21 +224,28 @@ grows-pass l e t z =
       none = k .2;
     }
 
--- ---- the earlier image of a run
+-- ---- the earlier image of a state that is possible, and so of a run
 unrefused-all : (a n r : ℕ) → a ≡ 0 → n ≡ stateLength → r ≡ 0 → imagesRefusal a (imagesRefusal (lengthRefusal n) r) ≡ 0
 unfolding imagesRefusal lengthRefusal
 unrefused-all a n r ea en er = simp (ea, en, er)
 
-pub grows-a-run : GrowsARun
-grows-a-run g s k a h w t n =
-    let st = runOf s h in
+grows-possible : (g : Given) (s : Settings) → Held g → openOf g ≡ opening.Accepted s → (st : State) → possible s st ≡ true
+    → st .waiting ≡ noneWaiting → (t : List ℕ) → length t ≡ stateLength → GrownBack (givenImage g) (take earlierLength (imageOf st)) t st
+grows-possible g s k a st p w t n =
     let l = givenImage g in
     let e = take earlierLength (imageOf st) in
     let b = given-back g k in
-    let p = range-passes s st (run-in s h) (balance-law s (g, a) h) in
     let x = earlier-read g s a st p w in
     let made : settingsBy l ≡ s = ap (λ (r : GivenRead). settingsOf (r .given)) b ∙ made-of g s a in
     let can : possible (settingsBy l) (stateAt e) ≡ true = (λ i. possible (made i) (x .state i)) ∙ p in
     let why = unrefused-all (givenIn l .refusal) (length t) (earlierRefusal e) (ap (λ (r : GivenRead). r .refusal) b) n (x .refusal) in
     let k = grow-good l e t why s can (ap (λ (r : GivenRead). openOf (r .given)) b ∙ a) in
     record { told = sym (k .0); image = sym (k .1) ∙ x .grown }
+
+pub grows-a-run : GrowsARun
+grows-a-run g s k a h = grows-possible g s k a (runOf s h) (range-passes s (runOf s h) (run-in s h) (balance-law s (g, a) h))
+
+pub grows-earlier : GrowsEarlier
+grows-earlier g s k a is =
+    let e = earlier-keeps s is in
+    grows-possible g s k a (foldl (earlierTick s) openState is) (range-passes s _ (e .range) (e .balance))

@@ -3,7 +3,7 @@
 use Prim.Native.Nat.{ℕ}
 use mathlib.Core.Path.{_≡_}
 use mathlib.Core.Bool.{Bool, cond}
-use mathlib.Core.List.{List, [], _∷_}
+use mathlib.Core.List.{List, [], _∷_, foldl}
 use lib.Dec.{leb}
 use lib.ListN.{length, take}
 use lib.IntN.{ℤ}
@@ -16,8 +16,10 @@ use Rattle.settings.specs.Held.{Held}
 use Rattle.outline.specs.Limits.{blockLimit}
 use Rattle.outline.specs.Settings.{openOf}
 use Rattle.outline.specs.Setpoints.{noneWaiting}
+use Rattle.outline.specs.Tick.{openState}
 use Rattle.outline.specs.Replies.{lineTickOf}
 use Rattle.outline.specs.Run.{History, start, runOf, runFrom, thenAll, blockInputs, lineInput}
+use Rattle.outline.specs.StaysTrue.{earlierTick}
 use Rattle.images.specs.StateImage.{stateLength, earlierLength, imageOf, stateAt}
 use Rattle.images.specs.GivenImage.{givenImage}
 use Rattle.board.specs.AnswerImage.{lengthByte}
@@ -84,8 +86,8 @@ pub record GrownTo (l e t : List ℕ) : Type 0 where
 abbrev pub GrowsPass : Type 0
 GrowsPass = (l e t : List ℕ) → growAnswer l e (length t) ≡ 0 → GrownTo l e t
 
--- and no image that an earlier program kept is refused. That program refused writes outside 00 with 3; its run is today's run without
--- those writes, in which nothing waits. Today's image of it, without its last 32 bytes, is the one that was kept, and grows to the whole.
+-- and no image that an earlier program kept is refused. That program refused writes outside 00 with 3; its run is one without those
+-- writes, in which nothing waits. Today's image of it, without its last 32 bytes, is the one that was kept, and grows to the whole.
 pub record GrownBack (l e t : List ℕ) (st : State) : Type 0 where
   pub told : growAnswer l e (length t) ≡ 0
   pub image : growImage l e t ≡ imageOf st
@@ -94,6 +96,12 @@ abbrev pub GrowsARun : Type 0
 GrowsARun = (g : Given) (s : Settings) → Held g → openOf g ≡ opening.Accepted s → (h : History Input) → runOf s h .waiting ≡ noneWaiting
     → (t : List ℕ) → length t ≡ stateLength
     → GrownBack (givenImage g) (take earlierLength (imageOf (runOf s h))) t (runOf s h)
+
+-- the same of a run of the program before A6
+abbrev pub GrowsEarlier : Type 0
+GrowsEarlier = (g : Given) (s : Settings) → Held g → openOf g ≡ opening.Accepted s → (is : List Input) →
+    let st = foldl (earlierTick s) openState is in
+    st .waiting ≡ noneWaiting → (t : List ℕ) → length t ≡ stateLength → GrownBack (givenImage g) (take earlierLength (imageOf st)) t st
 
 -- ---- the byte for a reply's length holds all of it
 abbrev pub LengthTold : Type 0

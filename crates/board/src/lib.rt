@@ -14,7 +14,7 @@ ghost use Rattle.images.specs.StateImage.{earlierLength, imageOf, stateAt};
 ghost use Rattle.images.specs.Images.{bytesRefusal};
 ghost use Rattle.images.specs.Holds.{Turns, Tells, withPanel};
 ghost use Rattle.outline.specs.Parts.{withBook, withStability, withWeighing, withSetpoints, withSequence, withTotals};
-ghost use Rattle.board.specs.Owed.{CallsAreTicks, OpensARun, CallsAreRuns, GrowsPass, GrowsARun, LengthTold};
+ghost use Rattle.board.specs.Owed.{CallsAreTicks, OpensARun, CallsAreRuns, GrowsPass, GrowsARun, GrowsEarlier, LengthTold};
 ghost use Rattle.board.specs.Board.{imagesRefusal, givenBy, lengthRefusal, openAnswer, openImage, growAnswer, growImage};
 ghost use Rattle.board.specs.Board.{ifRoom, roomAnswer, roomImage, roomBuffer, inputOf, toldOf};
 ghost use Rattle.board.specs.Board.{tickAnswer, tickImage, tickBuffer, lineAnswer, lineImage, lineReply, lineBuffer};
@@ -422,5 +422,6 @@ pub fn every_call()
     ensures runs { λ r. ⌜ CallsAreRuns ⌝ }
     ensures grows { λ r. ⌜ GrowsPass ⌝ }
     ensures grows_a_run { λ r. ⌜ GrowsARun ⌝ }
+    ensures grows_earlier { λ r. ⌜ GrowsEarlier ⌝ }
     ensures length { λ r. ⌜ LengthTold ⌝ }
 {}

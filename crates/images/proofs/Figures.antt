@@ -46,6 +46,7 @@ judged = record {
   sums-most = refl;
   sums-over = refl;
   counter-most = refl;
+  counter-while-closed = refl;
   counter-over = refl;
   tracked-most = refl;
   tracked-over = refl;

@@ -1,15 +1,19 @@
--- Every possible state is read back from its image; so is every state of a run, and every state after any ticks and requests from an image that
+-- Every possible state is read back from its image; so is every state of a run, of today's program or the one before A6, and every state after any ticks and requests from an image that
 -- passes. Assumes nothing.
 use mathlib.Core.Path.{_≡_, sym, subst}
 use mathlib.Core.Bool.{true}
+use mathlib.Core.List.{foldl}
 use Rattle.types.specs.declared.settings.Settings.{Settings}
+use Rattle.outline.specs.Tick.{openState}
 use Rattle.outline.specs.Run.{runOf, runFrom}
+use Rattle.outline.specs.StaysTrue.{earlierTick}
 use Rattle.outline.proofs.Opened.{passed}
 use Rattle.outline.proofs.RangeRun.{run-in, from-range}
 use Rattle.outline.proofs.BookRun.{balance-law}
+use Rattle.outline.proofs.EarlierRun.{earlier-keeps}
 use Rattle.images.specs.Possible.{possible}
 use Rattle.images.specs.Images.{stateIn}
-use Rattle.images.specs.Owed.{ReadBack, RunsPass, FromImages}
+use Rattle.images.specs.Owed.{ReadBack, RunsPass, EarlierPass, FromImages}
 use Rattle.images.proofs.Trip.{held-back, is-possible}
 use Rattle.images.proofs.Decided.{range-passes, range-of, balance-of}
 use Rattle.images.proofs.Bounds.{range-held}
@@ -20,6 +24,11 @@ read-back g s a st p =
 
 pub runs-pass : RunsPass
 runs-pass g s a h = read-back g s a (runOf s h) (range-passes s (runOf s h) (run-in s h) (balance-law s (g, a) h))
+
+pub earlier-pass : EarlierPass
+earlier-pass g s a is =
+    let k = earlier-keeps s is in
+    read-back g s a (foldl (earlierTick s) openState is) (range-passes s _ (k .range) (k .balance))
 
 pub from-images : FromImages
 from-images g s a l z is =

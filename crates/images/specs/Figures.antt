@@ -364,6 +364,19 @@ day opening last refilled used unbooked ticks = record {
   contact = false;
 }
 
+-- the same day, with the contact closed at its last good tick
+abbrev pub filling : Book → Book
+filling b = record {
+  opening = b .opening;
+  last = b .last;
+  refilled = b .refilled;
+  used = b .used;
+  unbooked = b .unbooked;
+  ticks = b .ticks;
+  begun = b .begun;
+  contact = true;
+}
+
 abbrev pub points : ℕ → ℕ → ℕ → ℕ → Setpoints
 points target fall preliminary optional = record {
   target = target;
@@ -398,6 +411,8 @@ pub record Judged : Type 0 where
   pub sums-most : under givenA (book idle (day (pos 0) (pos 0) (pos 4000000) (pos 4000000) (pos 0) 1)) ≡ true
   pub sums-over : under givenA (book idle (day (pos 0) (pos 0) (pos 4000001) (pos 4000001) (pos 0) 1)) ≡ false
   pub counter-most : under givenA (weighs idle (minus 12) (minus 12) (pos 0) 99) ≡ true
+  -- A6: no run counts while the contact is closed; the program before it did, and its images pass
+  pub counter-while-closed : under givenA (book idle (filling (idle .book))) ≡ true
   pub counter-over : under givenA (weighs idle (minus 12) (minus 12) (pos 0) 100) ≡ false
   pub tracked-most : under givenB (weighs mid (minus 12) (pos 20) (pos 1230) 0) ≡ true
   pub tracked-over : under givenB (weighs mid (minus 12) (pos 21) (pos 1230) 0) ≡ false

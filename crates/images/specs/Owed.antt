@@ -3,7 +3,7 @@
 use Prim.Native.Nat.{ℕ}
 use mathlib.Core.Path.{_≡_}
 use mathlib.Core.Bool.{true}
-use mathlib.Core.List.{List}
+use mathlib.Core.List.{List, foldl}
 use lib.Dec.{T}
 use lib.ListN.{getD, take}
 use Rattle.places.specs.Places.{unused}
@@ -15,9 +15,10 @@ use Rattle.types.specs.declared.machine.Input.{Input}
 use Rattle.settings.specs.Held.{Held}
 use Rattle.outline.specs.Settings.{settingsOf, openOf}
 use Rattle.outline.specs.Setpoints.{noneWaiting}
+use Rattle.outline.specs.Tick.{openState}
 use Rattle.outline.specs.Run.{History, runOf, runFrom}
 use Rattle.outline.specs.Ranges.{Balanced, StateRange}
-use Rattle.outline.specs.StaysTrue.{Keeps}
+use Rattle.outline.specs.StaysTrue.{Keeps, earlierTick}
 use Rattle.images.specs.StateImage.{earlierLength, stateRows, imageOf, stateAt, grownOf}
 use Rattle.images.specs.GivenImage.{GivenRead, givenRows, givenImage, givenIn}
 use Rattle.images.specs.Possible.{possible}
@@ -68,6 +69,12 @@ Decides = (s : Settings) (st : State) → Decided s st
 abbrev pub RunsPass : Type 0
 RunsPass =
     (g : Given) (s : Settings) → openOf g ≡ opening.Accepted s → (h : History Input) → stateIn g (imageOf (runOf s h)) ≡ good (runOf s h)
+
+-- A6: nor is one that the program before that request wrote, which counted for tracking, and took a zero, while the contact was closed
+abbrev pub EarlierPass : Type 0
+EarlierPass = (g : Given) (s : Settings) → openOf g ≡ opening.Accepted s → (is : List Input) →
+    let st = foldl (earlierTick s) openState is in
+    stateIn g (imageOf st) ≡ good st
 
 -- ---- 2. from every image that passes, whoever wrote it: after any ticks and requests the state is in range, the day balances, the
 -- tracked sum keeps the allowance, no gate is open while an error stands; and its image passes again

@@ -2,7 +2,7 @@
 // places; an image is judged by its bytes and by its ranges. Nothing is kept here.
 ghost use Rattle.images.specs.Figures.{Imaged, Judged, Earlier};
 ghost use Rattle.images.specs.Owed.{ReadBack, OneImage, UnusedZero, GivenBack, OneGiven, UnusedGiven, Decides, RunsPass, FromImages};
-ghost use Rattle.images.specs.Owed.{Grows, EarlierRead};
+ghost use Rattle.images.specs.Owed.{EarlierPass, Grows, EarlierRead};
 
 pub mod given;
 mod names;
@@ -24,6 +24,7 @@ pub fn every_image()
     ensures unused_given { λ r. ⌜ UnusedGiven ⌝ }
     ensures decides { λ r. ⌜ Decides ⌝ }
     ensures runs_pass { λ r. ⌜ RunsPass ⌝ }
+    ensures earlier_pass { λ r. ⌜ EarlierPass ⌝ }
     ensures from_images { λ r. ⌜ FromImages ⌝ }
     ensures grows { λ r. ⌜ Grows ⌝ }
     ensures earlier_read { λ r. ⌜ EarlierRead ⌝ }

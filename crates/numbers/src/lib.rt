@@ -19,6 +19,7 @@ pub fn refusal_number(n: Refusal) -> u8
         Refusal::OutsideRules => 5,
         Refusal::SetpointRules => 6,
         Refusal::NothingToTakeBack => 7,
+        Refusal::ContactClosed => 8,
         Refusal::LossInWeight => 9,
     }
 }

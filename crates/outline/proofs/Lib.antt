@@ -21,6 +21,7 @@ pub mod Rules
 pub mod Finishes
 pub mod LineFigures
 pub mod CommandFigures
+pub mod ConnectedFigures
 pub mod OpeningFigures
 pub mod RequestFigures
 pub mod StageFigures
@@ -38,6 +39,8 @@ pub mod RefusalLaw
 -- the zero, the totals, the gates
 pub mod ZeroStep
 pub mod ZeroRun
+pub mod ConnectedLaw
+pub mod EarlierRun
 pub mod FinishStep
 pub mod TotalStep
 pub mod TotalRun

@@ -34,6 +34,7 @@ refusal-answer refusal.Unstable = refl
 refusal-answer refusal.OutsideRules = refl
 refusal-answer refusal.SetpointRules = refl
 refusal-answer refusal.NothingToTakeBack = refl
+refusal-answer refusal.ContactClosed = refl
 refusal-answer refusal.LossInWeight = refl
 
 refusal-small : (n : Refusal) → refusalNumber n ≤ 9
@@ -44,6 +45,7 @@ refusal-small refusal.Unstable = omega arith
 refusal-small refusal.OutsideRules = omega arith
 refusal-small refusal.SetpointRules = omega arith
 refusal-small refusal.NothingToTakeBack = omega arith
+refusal-small refusal.ContactClosed = omega arith
 refusal-small refusal.LossInWeight = omega arith
 
 told-answer : (c : Command) (o : Outcome) → isAnswer (toldNumber (toldOf c o)) ≡ true

@@ -26,7 +26,7 @@ use Rattle.outline.proofs.RangeSequence.{tick-sequence}
 use Rattle.outline.proofs.RangeTotals.{clear-in, tick-totals}
 use Rattle.outline.proofs.RangeTogether.{tick-together}
 
-open-in : (s : Settings) → StateRange s openState
+pub open-in : (s : Settings) → StateRange s openState
 unfolding openState
 open-in s = record {
   book = record {

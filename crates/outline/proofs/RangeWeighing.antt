@@ -114,7 +114,7 @@ module _ (s : Settings) (st : State) (x : Weights) (weighed : Weighed (s .range)
   granted-weighing : (r : Request) → doneOf (rulingOf s st x r) ≡ true → In s (grantedOf st x r .state .weighing)
   unfolding grantedOf rulingOf
   granted-weighing request.Nothing e = h
-  granted-weighing request.Zero e = zeroed-in (s .range) (s .tracking) (st .weighing) h (x .raw) (not-false _ (none-applies (rowsTo (s .range) (s .batching .mode) (st .sequence) (st .totals) x request.Zero) e .1 .1 .1 .1 .0))
+  granted-weighing request.Zero e = zeroed-in (s .range) (s .tracking) (st .weighing) h (x .raw) (not-false _ (none-applies (rowsTo (s .range) (s .batching .mode) (st .sequence) (st .totals) x request.Zero) e .1 .1 .1 .1 .1 .0))
   granted-weighing request.Tare e = tare-in (s .range) (s .tracking) (st .weighing) (st .weighing) x h weighed (not-false _ (none-applies (rowsTo (s .range) (s .batching .mode) (st .sequence) (st .totals) x request.Tare) e .1 .1 .1 .1 .0))
   granted-weighing request.TareClear e = tared-in (s .range) (s .tracking) (st .weighing) h (pos 0) refl (omega arith)
   granted-weighing request.Start e = h
@@ -144,7 +144,7 @@ pub record Counts (t : Tracking) (idle : Bool) (x : Weights) : Type 0 where
 
 pub counts : (t : Tracking) (idle keyed : Bool) (x : Weights) → trackingOn t && calmOf t idle keyed x ≡ true → Counts t idle x
 counts t idle keyed x e =
-    let calm = links (fitOf x) (idle ∷ not keyed ∷ within (t .width) (x .fine) ∷ []) (and-right (trackingOn t) (calmOf t idle keyed x) e) in
+    let calm = links (fitOf x) (idle ∷ not keyed ∷ not (x .contact) ∷ within (t .width) (x .fine) ∷ []) (and-right (trackingOn t) (calmOf t idle keyed x) e) in
     record {
       on = and-left (trackingOn t) (calmOf t idle keyed x) e;
       good = and-left (x .good) (not (x .overload)) (calm .0);

@@ -26,11 +26,12 @@ use Rattle.outline.specs.Settings.{within}
 use Rattle.outline.specs.Weight.{rawOf, weighOf}
 use Rattle.outline.specs.Zero.{inZeroRange, trackingOn, calmOf, mayMove, withCounter, movedOf, countedUp, trackedOf}
 use Rattle.outline.specs.Requests.{idleNow, rulingOf, doneOf, grantedOf, decidedOf}
-use Rattle.outline.specs.Tick.{enteredOf, weightsOf, settledOf, servedOf, withTracking, finishedOf, steppedOf, endedOf, nextOf}
+use Rattle.outline.specs.Tick.{enteredOf, weightsOf, settledOf, servedOf, nextOf}
 use Rattle.outline.specs.Kinds.{requestKind}
 use Rattle.outline.specs.Zeroing.{seenOf, Zeroing, sumOf, AllWithin, inForce, isCalm, calmStep, restless, zeroStep}
 use Rattle.whole.specs.Chains.{and-left, and-right}
-use Rattle.outline.proofs.Parts.{cond-same, and-no, and-yes, clash, plus-nought}
+use Rattle.outline.proofs.Parts.{and-no, and-yes, clash, plus-nought}
+use Rattle.outline.proofs.RangeWeighing.{ended-weighing}
 
 -- ---- what a state says of the zero
 pub record Zeros : Type 0 where
@@ -50,7 +51,7 @@ pub record Zeroed (s : Settings) (w : Zeros) (z : Zeroing) : Type 0 where
   pub each : AllWithin (s .tracking .allowance) (z .moves)
 
 -- ---- step 4: an accepted zero alone changes it
-abbrev keyedZeros : Bool → ℤ → Zeros → Zeros
+abbrev pub keyedZeros : Bool → ℤ → Zeros → Zeros
 keyedZeros t x z = record { zero = cond t x (z .zero); tracked = cond t (pos 0) (z .tracked); counter = z .counter }
 
 granted-zeros : (st : State) (x : Weights) (r : Request) →
@@ -70,7 +71,7 @@ granted-zeros st x request.ShowNet = refl
 granted-zeros st x request.DayClose = refl
 granted-zeros st x request.Discharge = refl
 
-settled-zeros : (s : Settings) (st : State) (x : Weights) (r : Request) →
+pub settled-zeros : (s : Settings) (st : State) (x : Weights) (r : Request) →
     zerosOf (decidedOf s st x r .state .weighing) ≡ keyedZeros (decidedOf s st x r .keyed) (x .raw) (zerosOf (st .weighing))
 unfolding decidedOf
 settled-zeros s st x r = go (doneOf (rulingOf s st x r))
@@ -103,27 +104,36 @@ settled-keyed : (s : Settings) (st : State) (x : Weights) (r : Request) →
 unfolding decidedOf
 settled-keyed s st x r = rw (granted-keyed st x r)
 
--- and never at a bad tick
-bad-unkeyed : (s : Settings) (st : State) (x : Weights) (r : Request) → x .good ≡ false → decidedOf s st x r .keyed ≡ false
-unfolding decidedOf rulingOf grantedOf
-bad-unkeyed s st x request.Nothing h = refl
-bad-unkeyed s st x request.Zero h = simp h
-bad-unkeyed s st x request.Tare h = simp and-no
-bad-unkeyed s st x request.TareClear h = simp and-no
-bad-unkeyed s st x request.Start h = simp and-no
-bad-unkeyed s st x request.Stop h = refl
-bad-unkeyed s st x (request.Set p) h = simp and-no
-bad-unkeyed s st x request.TotalClear h = refl
-bad-unkeyed s st x request.Undo h = simp and-no
-bad-unkeyed s st x request.ShowGross h = refl
-bad-unkeyed s st x request.ShowNet h = refl
-bad-unkeyed s st x request.DayClose h = simp and-no
-bad-unkeyed s st x request.Discharge h = simp and-no
+-- one request alone keys a zero
+zeroes-zero : (r : Request) → requestKind r .zeroes ≡ true → r ≡ request.Zero
+zeroes-zero request.Nothing e = absurd (clash e refl)
+zeroes-zero request.Zero e = refl
+zeroes-zero request.Tare e = absurd (clash e refl)
+zeroes-zero request.TareClear e = absurd (clash e refl)
+zeroes-zero request.Start e = absurd (clash e refl)
+zeroes-zero request.Stop e = absurd (clash e refl)
+zeroes-zero (request.Set p) e = absurd (clash e refl)
+zeroes-zero request.TotalClear e = absurd (clash e refl)
+zeroes-zero request.Undo e = absurd (clash e refl)
+zeroes-zero request.ShowGross e = absurd (clash e refl)
+zeroes-zero request.ShowNet e = absurd (clash e refl)
+zeroes-zero request.DayClose e = absurd (clash e refl)
+zeroes-zero request.Discharge e = absurd (clash e refl)
 
--- ---- steps 5 and 6: tracking alone changes it
-ended-weighing : (s : Settings) (a : Settled) (x : Weights) → endedOf s a x .weighing ≡ trackedOf s (idleNow (a .state)) (a .keyed) x (a .state .weighing)
-unfolding endedOf withTracking steppedOf finishedOf
-ended-weighing s a x = simp cond-same
+-- a zero is refused in a bad tick
+bad-refused : (s : Settings) (st : State) (x : Weights) → x .good ≡ false → doneOf (rulingOf s st x request.Zero) ≡ false
+unfolding rulingOf
+bad-refused s st x h = simp h
+
+-- where a zero is refused, whatever is asked keys none
+module _ (s : Settings) (st : State) (x : Weights) (no : doneOf (rulingOf s st x request.Zero) ≡ false) where
+  pub none-keyed : (r : Request) → decidedOf s st x r .keyed ≡ false
+  unfolding decidedOf
+  none-keyed r = settled-keyed s st x r ∙ go (requestKind r .zeroes) refl
+    where
+      go : (t : Bool) → requestKind r .zeroes ≡ t → doneOf (rulingOf s st x r) && t ≡ false
+      go true e = ap (λ (u : Request). doneOf (rulingOf s st x u) && true) (zeroes-zero r e) ∙ ap (λ (u : Bool). u && true) no
+      go false e = and-no (doneOf (rulingOf s st x r))
 
 -- ---- the counter, which returns to 0 at q, is the calm ticks' remainder by q
 module _ (c q : ℕ) (hq : 0 < q) where
@@ -278,5 +288,5 @@ module _ (s : Settings) (st : State) (i : Input) where
       (tracked-zeros s (a₄ .state .stability) (a₄ .state .weighing) (idleNow (a₄ .state)) (i .contact) (zerosOf (st .weighing)) z (a₄ .keyed) raw₁ (x₃ .raw)
       (settled-zeros s st₂ x₃ (i .request))
       (weigh-raw s (st₂ .stability) (st₂ .weighing) raw₁ (i .contact))
-      (λ e. bad-unkeyed s st₂ x₃ (i .request) (weigh-bad s (st₂ .stability) (st₂ .weighing) raw₁ (i .contact) e))
+      (λ e. none-keyed s st₂ x₃ (bad-refused s st₂ x₃ (weigh-bad s (st₂ .stability) (st₂ .weighing) raw₁ (i .contact) e)) (i .request))
       h))

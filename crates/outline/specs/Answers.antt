@@ -42,7 +42,7 @@ abbrev pub blockDue : List ℤ → ℕ
 blockDue counts = cond (leb (length counts) blockLimit) 0 15
 
 -- ---- a request: the table "No. | Given when | To"
--- the requests that the column "To" names; the others are "never refused here"
+-- the requests that the column "To" names, with a label each, which is no number of the paper's; the others are "never refused here"
 abbrev pub zero : ℕ
 zero = 1
 
@@ -120,12 +120,14 @@ pub record Given-when : Type 0 where
 abbrev pub row : ℕ → Bool → List ℕ → Given-when
 row n given to = record { number = n; given = given; to = to }
 
--- the table, row by row; A1: "BD takes 1, 2, 3 as start does, then 9 in mode 2."; A5: "setpoints no longer answer 3; 6 stands."
+-- the table, row by row; A1: "BD takes 1, 2, 3 as start does, then 9 in mode 2."; A5: "setpoints no longer answer 3; 6 stands."; A6: "8,
+-- contact closed, to zero only, tested after 3 and before 4"
 abbrev pub tableOf : Settings → State → Weights → Request → List Given-when
 tableOf s st x r =
     row 1 (not (x .good)) (zero ∷ tare ∷ start ∷ day-close ∷ discharge ∷ [])
     ∷ row 2 (x .overload) (zero ∷ tare ∷ start ∷ discharge ∷ [])
     ∷ row 3 (not (eqb (stageNumber (st .sequence .stage)) 0)) (zero ∷ tare ∷ tare-clear ∷ start ∷ discharge ∷ [])
+    ∷ row 8 (x .contact) (zero ∷ [])
     ∷ row 4 (not (x .stable)) (zero ∷ tare ∷ [])
     ∷ row 5 (isOutside s x (nameOf r)) (zero ∷ tare ∷ [])
     ∷ row 6 (isBroken s r) (setpoints ∷ [])
@@ -133,14 +135,14 @@ tableOf s st x r =
     ∷ row 9 (isLoss (s .batching .mode)) (discharge ∷ [])
     ∷ []
 
--- "0 is accepted or nothing asked. Otherwise the first that applies, in numerical order."
-abbrev pub leastOf : ℕ → List Given-when → ℕ
-leastOf name [] = 0
-leastOf name (l ∷ ls) = cond (isIn name (l .to) && l .given) (l .number) (leastOf name ls)
+-- "0 is accepted or nothing asked. Otherwise the first that applies, in numerical order."; 8 comes between 3 and 4 (A6)
+abbrev pub firstGiven : ℕ → List Given-when → ℕ
+firstGiven name [] = 0
+firstGiven name (l ∷ ls) = cond (isIn name (l .to) && l .given) (l .number) (firstGiven name ls)
 
 -- of a request that a tick asks of the state and the weights that it finds
 abbrev pub requestDue : Settings → State → Weights → Request → ℕ
-requestDue s st x r = leastOf (nameOf r) (tableOf s st x r)
+requestDue s st x r = firstGiven (nameOf r) (tableOf s st x r)
 
 -- of a tick: its request finds what steps 1 to 3 leave
 unfoldable pub tickDue : Settings → State → Input → ℕ

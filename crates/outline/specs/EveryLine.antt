@@ -14,6 +14,7 @@ use Rattle.types.specs.declared.stages.SequenceError.the-variants as error
 use Rattle.types.specs.declared.machine.State.{State}
 use Rattle.types.specs.declared.machine.Input.{Input}
 use Rattle.types.specs.declared.lines.LineKind.{LineKind}
+use Rattle.types.specs.declared.lines.LineTick.{LineTick}
 use Rattle.types.specs.declared.lines.LineKind.the-variants as kind
 use Rattle.types.specs.declared.lines.Word.{Word}
 use Rattle.types.specs.declared.lines.Word.the-variants as word
@@ -60,9 +61,9 @@ BytesStay = (s : Settings) (st : State) (count : ℤ) (contact : Bool) (receive 
     → Untouched s st count contact receive buffer
 
 -- ---- 3. what a line is answered
--- 0, a request's refusal 1 to 7 or 9, or a line's 11 to 14
+-- 0, a request's refusal 1 to 9, or a line's 11 to 14
 abbrev pub isAnswer : ℕ → Bool
-isAnswer n = leb n 7 || eqb n 9 || (leb 11 n && leb n 14)
+isAnswer n = leb n 9 || (leb 11 n && leb n 14)
 
 -- an empty line is one too
 abbrev pub isLine : LineKind → Bool
@@ -147,3 +148,14 @@ TicketOnLine = (s : Settings) (st : State) (count : ℤ) (contact : Bool) (recei
 abbrev pub NeverTogetherOnLine : Type 0
 NeverTogetherOnLine = (s : Settings) (st : State) (count : ℤ) (contact : Bool) (receive buffer : List ℕ)
     → bothOpen (lineTickOf s st count contact receive buffer .answer .gates) ≡ false
+
+-- ---- 8. A6: a tick with a line and the refill contact closed, in whatever state, leaves the zero in force and the sum of the tracking
+-- moves as they were, and makes the tracking counter 0
+pub record ConnectedLine (st : State) (t : LineTick) : Type 0 where
+  pub zero : t .state .weighing .zero ≡ st .weighing .zero
+  pub tracked : t .state .weighing .tracked ≡ st .weighing .tracked
+  pub counter : t .state .weighing .counter ≡ 0
+
+abbrev pub ZeroWhileConnectedOnLine : Type 0
+ZeroWhileConnectedOnLine = (s : Settings) (st : State) (count : ℤ) (receive buffer : List ℕ)
+    → ConnectedLine st (lineTickOf s st count true receive buffer)

@@ -13,7 +13,7 @@ pub data Asked : Type 0 where
   clear : Asked
 
 pub record Kind : Type 0 where
-  -- a zero is keyed
+  -- a zero is asked for
   pub zeroes : Bool
   -- a day close is asked
   pub closes : Bool

@@ -27,6 +27,7 @@ pub mod Rules
 pub mod Finishes
 pub mod LineFigures
 pub mod CommandFigures
+pub mod ConnectedFigures
 pub mod OpeningFigures
 pub mod RequestFigures
 pub mod StageFigures

@@ -41,6 +41,7 @@ refusalNumber refusal.Unstable = 4
 refusalNumber refusal.OutsideRules = 5
 refusalNumber refusal.SetpointRules = 6
 refusalNumber refusal.NothingToTakeBack = 7
+refusalNumber refusal.ContactClosed = 8
 refusalNumber refusal.LossInWeight = 9
 
 abbrev pub outcomeNumber : Outcome → ℕ

@@ -150,7 +150,8 @@ pub record TogetherRange (s : Settings) (st : State) : Type 0 where
   pub begun : st .stability .good ≡ true → st .book .begun ≡ true
   -- a batch or a discharge is under way after a good tick alone: it fails in a bad one, and none begins there
   pub under-way : idleOf (st .sequence .stage) ≡ false → st .stability .good ≡ true
-  -- the tracking counter counts in stage 00, from good tick to good tick
+  -- the tracking counter counts in stage 00, from good tick to good tick. Since A6 it is 0 after a closed one too; that is not asked, since
+  -- earlier programs, which counted there, kept such states (D117c)
   pub resting : idleOf (st .sequence .stage) ≡ false → st .weighing .counter ≡ 0
   pub unbroken : st .stability .good ≡ false → st .weighing .counter ≡ 0
   -- the set in use stays as it is until the batch ends

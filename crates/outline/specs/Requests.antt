@@ -64,6 +64,10 @@ row6 kept = record { number = refusal.SetpointRules; applies = not kept }
 abbrev pub row7 : Totals → Row
 row7 t = record { number = refusal.NothingToTakeBack; applies = noneBack (t .back) }
 
+-- A6: "8, contact closed, to zero only": the refill contact of this tick
+abbrev pub row8 : Bool → Row
+row8 contact = record { number = refusal.ContactClosed; applies = contact }
+
 -- A1: "then 9 in mode 2"
 abbrev pub lossMode : Mode → Bool
 lossMode mode.Normal = false
@@ -72,11 +76,11 @@ lossMode mode.Loss = true
 abbrev pub row9 : Mode → Row
 row9 m = record { number = refusal.LossInWeight; applies = lossMode m }
 
--- The column "To", turned: the rows that each request can meet, in numerical order. "Stop, total clear, show gross and show net are
--- never refused here."
+-- The column "To", turned: the rows that each request can meet, in the order in which they are tested: the numerical order, except that 8
+-- is "tested after 3 and before 4" (A6). "Stop, total clear, show gross and show net are never refused here."
 abbrev pub rowsTo : Range → Mode → Sequence → Totals → Weights → Request → List Row
 rowsTo range mode q t x request.Nothing = []
-rowsTo range mode q t x request.Zero = row1 x ∷ row2 x ∷ row3 q ∷ row4 x ∷ row5 (inZeroRange range (x .raw)) ∷ []
+rowsTo range mode q t x request.Zero = row1 x ∷ row2 x ∷ row3 q ∷ row8 (x .contact) ∷ row4 x ∷ row5 (inZeroRange range (x .raw)) ∷ []
 rowsTo range mode q t x request.Tare = row1 x ∷ row2 x ∷ row3 q ∷ row4 x ∷ row5 (inTareRange range (x .divisions)) ∷ []
 rowsTo range mode q t x request.TareClear = row3 q ∷ []
 rowsTo range mode q t x request.Start = row1 x ∷ row2 x ∷ row3 q ∷ []
@@ -91,7 +95,7 @@ rowsTo range mode q t x request.DayClose = row1 x ∷ []
 -- A1: "BD takes 1, 2, 3 as start does, then 9 in mode 2."
 rowsTo range mode q t x request.Discharge = row1 x ∷ row2 x ∷ row3 q ∷ row9 mode ∷ []
 
--- "0 is accepted or nothing asked. Otherwise the first that applies, in numerical order."
+-- "0 is accepted or nothing asked. Otherwise the first that applies, in numerical order.": the first of those rows
 abbrev pub firstOf : List Row → Outcome
 firstOf [] = outcome.Done
 firstOf (r ∷ rs) = cond (r .applies) (outcome.Refused (r .number)) (firstOf rs)

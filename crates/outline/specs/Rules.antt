@@ -70,7 +70,7 @@ abbrev pub number : State → ℤ → Request → ℕ
 number st count r = outcomeNumber (told settingsA st count r .outcome)
 
 pub record Refused : Type 0 where
-  -- 1 before 2 and 3, 2 before 3, 3 before 4, 4 before 5
+  -- 1 before 2 and 3, 2 before 3, 3 before 4, 4 before 5; 8, which only a closed contact gives, is in ConnectedFigures
   pub bad : number running (pos 2000001) request.Zero ≡ 1
   pub overload : number running (pos 110000) request.Zero ≡ 2
   pub not-idle : number running (pos 0) request.Zero ≡ 3

@@ -1,5 +1,5 @@
 -- A run: the state after an opening and then any ticks, each with its count, its contact and its request.
-use mathlib.Core.Bool.{Bool, cond}
+use mathlib.Core.Bool.{Bool, false, cond}
 use mathlib.Core.List.{List, [], _∷_, foldl}
 use lib.Dec.{leb}
 use lib.ListN.{length}
@@ -48,3 +48,7 @@ logInput s st count contact request buffer =
 -- the same tick, asked nothing
 abbrev pub withoutRequest : Input → Input
 withoutRequest i = unaskedOf (i .count) (i .contact)
+
+-- the same tick, with the refill contact open
+abbrev pub contactOpen : Input → Input
+contactOpen i = record { count = i .count; contact = false; request = i .request }

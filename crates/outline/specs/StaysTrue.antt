@@ -4,12 +4,13 @@
 use Prim.Native.Nat.{ℕ, _+_, _≤_}
 use mathlib.Core.Path.{_≡_}
 use mathlib.Core.Bool.{Bool, true, false, _&&_, _||_}
-use mathlib.Core.List.{List, [], _∷_}
+use mathlib.Core.List.{List, [], _∷_, foldl}
 use lib.ListN.{length, take, drop}
-use lib.IntN.{ℤ, natAbs, _+ℤ_, _-ℤ_}
+use lib.IntN.{ℤ, pos, natAbs, _+ℤ_, _-ℤ_}
 use Rattle.types.specs.declared.settings.Settings.{Settings}
 use Rattle.types.specs.declared.daybook.Closed.the-variants as closed
 use Rattle.types.specs.declared.requests.Request.the-variants as request
+use Rattle.types.specs.declared.requests.Refusal.the-variants as refusal
 use Rattle.types.specs.declared.requests.Outcome.the-variants as outcome
 use Rattle.types.specs.declared.stages.Setpoints.{Setpoints}
 use Rattle.types.specs.declared.stages.Waiting.{Waiting}
@@ -19,23 +20,26 @@ use Rattle.types.specs.declared.stages.Gates.{Gates}
 use Rattle.types.specs.declared.stages.Totals.{Totals}
 use Rattle.types.specs.declared.machine.State.{State}
 use Rattle.types.specs.declared.machine.Input.{Input}
+use Rattle.types.specs.declared.machine.Answer.{Answer}
 use Rattle.types.specs.declared.lines.Command.the-variants as command
 use Rattle.types.specs.declared.lines.LineAnswer.the-variants as told
 use Rattle.types.specs.declared.lines.LineTick.{LineTick}
 use Rattle.types.specs.declared.lines.Word.the-variants as word
 use Rattle.outline.specs.Limits.{blockLimit, totalLimit, batchLimit}
+use Rattle.outline.specs.Weight.{fitOf}
+use Rattle.outline.specs.DayBook.{openBook}
 use Rattle.outline.specs.Setpoints.{openSetpoints, noneWaiting, latestOf}
 use Rattle.outline.specs.Stages.{shut, idleOf, dischargingOf}
 use Rattle.outline.specs.Totals.{clearTotals, takenBack}
-use Rattle.outline.specs.Parts.{withSetpoints, withWaiting}
+use Rattle.outline.specs.Parts.{withBook, withWeighing, withSetpoints, withWaiting}
 use Rattle.outline.specs.Requests.{idleNow, doneOf}
-use Rattle.outline.specs.Tick.{settledOf, servedOf, nextOf, tickOf, blockOf}
+use Rattle.outline.specs.Tick.{openState, settledOf, servedOf, nextOf, tickOf, blockOf}
 use Rattle.outline.specs.Lines.{lineOf, prefixLength, commandOf}
 use Rattle.outline.specs.Replies.{framed, dueText, lineTickOf}
 use Rattle.outline.specs.Log.{requestTick}
 use Rattle.outline.specs.Owed.{Accepted}
 use Rattle.outline.specs.Kinds.{Asked, nothing, undo, clear, requestKind, isWrite}
-use Rattle.outline.specs.Run.{History, _▷_, runOf, runFrom, thenAll, blockInputs, lineInput, logInput, withoutRequest}
+use Rattle.outline.specs.Run.{History, _▷_, runOf, runFrom, thenAll, blockInputs, lineInput, logInput, withoutRequest, contactOpen}
 use Rattle.outline.specs.Day.{tapeOf, bookHistory}
 use Rattle.outline.specs.Zeroing.{seenRun, zeroingOf, sumOf, AllWithin}
 use Rattle.outline.specs.Ledger.{eventRun, ledgerOf, sumN}
@@ -231,3 +235,64 @@ WaitingAside = (s : Settings) (st : State) (w : Waiting) (i : Input)
 abbrev pub WriteAside : Type 0
 WriteAside = (s : Settings) (st : State) (i : Input) (p : Setpoints) → idleNow st ≡ false → i .request ≡ request.Set p
     → besideSets (nextOf s st i) ≡ besideSets (nextOf s st (withoutRequest i))
+
+-- ---- 20. A6: in whatever state, a tick with the refill contact closed leaves the zero in force as it was, whatever is asked. It leaves
+-- the sum of the tracking moves too, "the tracking counter returns to 0", and a zero is refused: with 8 where the tick is good, without
+-- overload and in 00. (Statement 4 takes from the tick whether a zero was keyed; this one alone says that none is.)
+pub record Connected (s : Settings) (st : State) (i : Input) : Type 0 where
+  pub zero : nextOf s st i .weighing .zero ≡ st .weighing .zero
+  pub tracked : nextOf s st i .weighing .tracked ≡ st .weighing .tracked
+  pub counter : nextOf s st i .weighing .counter ≡ 0
+  pub refused : i .request ≡ request.Zero → doneOf (tickOf s st i .answer .outcome) ≡ false
+  pub number : i .request ≡ request.Zero → fitOf (servedOf s st i) ≡ true → idleNow st ≡ true
+      → tickOf s st i .answer .outcome ≡ outcome.Refused refusal.ContactClosed
+
+abbrev pub ZeroWhileConnected : Type 0
+ZeroWhileConnected = (s : Settings) (st : State) (i : Input) → i .contact ≡ true → Connected s st i
+
+-- ---- 21. A6: so a whole refill does, however many ticks it has
+abbrev pub AllClosed : List Input → Type 0
+AllClosed [] = Unit {0}
+AllClosed (i ∷ is) = (i .contact ≡ true) × AllClosed is
+
+pub record Unmoved (st st′ : State) : Type 0 where
+  pub zero : st′ .weighing .zero ≡ st .weighing .zero
+  pub tracked : st′ .weighing .tracked ≡ st .weighing .tracked
+
+abbrev pub ZeroThroughRefill : Type 0
+ZeroThroughRefill = (s : Settings) (st : State) (is : List Input) → AllClosed is → Unmoved st (runFrom s st is)
+
+-- ---- 22. A6: 8 is "to zero only": whatever else is asked, in whatever state, a tick answers the same with the contact closed and with it
+-- open, but for the sums of a day that it closes, and leaves the same of all parts but the day book and the zero with its tracking
+abbrev pub besideDay : Answer → Answer
+besideDay a = record {
+  outcome = a .outcome;
+  reading = a .reading;
+  stage = a .stage;
+  gates = a .gates;
+  judgement = a .judgement;
+  error = a .error;
+  near = a .near;
+  full = a .full;
+  analog = a .analog;
+  closed = closed.Nothing;
+}
+
+-- without book, zero and tracking; the tare stays
+abbrev pub besideZero : State → State
+besideZero st = withWeighing (withBook st openBook) (record { zero = pos 0; tracked = pos 0; tare = st .weighing .tare; counter = 0 })
+
+pub record AlikeOpen (s : Settings) (st : State) (i : Input) : Type 0 where
+  pub answer : besideDay (tickOf s st i .answer) ≡ besideDay (tickOf s st (contactOpen i) .answer)
+  pub state : besideZero (nextOf s st i) ≡ besideZero (nextOf s st (contactOpen i))
+
+abbrev pub ToZeroOnly : Type 0
+ToZeroOnly = (s : Settings) (st : State) (i : Input) → (i .request ≡ request.Zero → ⊥) → AlikeOpen s st i
+
+-- ---- 23. A6 narrows no range: what the program before it could reach still keeps all that is asked of a state, so that its images pass.
+-- To that program the contact was of the day book alone: its tick is today's with the contact open, with the book of today's.
+abbrev pub earlierTick : Settings → State → Input → State
+earlierTick s st i = withBook (nextOf s st (contactOpen i)) (nextOf s st i .book)
+
+abbrev pub EarlierKeeps : Type 0
+EarlierKeeps = (s : Settings) (is : List Input) → Keeps s (foldl (earlierTick s) openState is)

@@ -52,7 +52,8 @@ keptOf x = limitTo displayLimit x
 abbrev pub stableOf : Steadiness → Stability → Bool
 stableOf rule q = eqb (q .run) (rule .time)
 
--- "Gross fine = raw - zero in force. .. Net = gross - tare. In a bad tick gross and net are answered as 0, without overload."
+-- "Gross fine = raw - zero in force. .. Net = gross - tare. In a bad tick gross and net are answered as 0, without overload." The tick's
+-- refill contact stands beside the weights: refusal 8 and tracking ask for it (A6).
 unfoldable pub weighOf : Settings → Stability → Weighing → Raw → Bool → Weights
 weighOf s q w Bad contact = record {
   good = false;

@@ -31,9 +31,10 @@ taredOf w gross = record { zero = w .zero; tracked = w .tracked; tare = gross; c
 abbrev pub trackingOn : Tracking → Bool
 trackingOn t = ltb 0 (t .time) && ltb 0 (t .width)
 
--- "a tick that is good, not overloaded, in stage 00, without an accepted zero, with |gross fine| at most w"
+-- "a tick that is good, not overloaded, in stage 00, without an accepted zero, with |gross fine| at most w"; A6: and with the refill
+-- contact open, since "the tracking counter returns to 0 at each closed tick"
 abbrev pub calmOf : Tracking → Bool → Bool → Weights → Bool
-calmOf t idle keyed x = fitOf x && idle && not keyed && within (t .width) (x .fine)
+calmOf t idle keyed x = fitOf x && idle && not keyed && not (x .contact) && within (t .width) (x .fine)
 
 -- "the zero moves to raw if 10·|raw| is at most C·p and |tracked + gross fine| is at most L"
 abbrev pub mayMove : Settings → Weighing → Weights → Bool

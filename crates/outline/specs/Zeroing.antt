@@ -1,4 +1,5 @@
--- The zero in force, made of what each tick shows: its raw, whether its stage is 00 as step 4 leaves it, whether a zero was keyed.
+-- The zero in force, made of what each tick shows: its raw, its refill contact, whether its stage is 00 as step 4 leaves it, whether a zero
+-- was keyed.
 use Prim.Native.Nat.{ℕ, suc, _+_, _*_, _%_, _≤_}
 use mathlib.Core.Bool.{Bool, true, false, cond, not, _&&_}
 use mathlib.Core.List.{List, [], _∷_}
@@ -53,11 +54,12 @@ AllWithin n (x ∷ xs) = (natAbs (sumOf (x ∷ xs)) ≤ n) × AllWithin n xs
 abbrev pub inForce : Zeroing → ℤ
 inForce z = z .keyed +ℤ sumOf (z .moves)
 
--- a good tick without a keyed zero is calm if it is not overloaded, its stage is 00, and gross fine is within ±w
+-- a good tick without a keyed zero is calm if it is not overloaded, its stage is 00, its refill contact is open (A6), and gross fine is
+-- within ±w
 abbrev pub isCalm : Settings → Zeroing → Seen → ℤ → Bool
 isCalm s z t x =
     not (ltb (s .range .capacity + overloadMargin) (natAbs (divisionsOf (x -ℤ inForce z))))
-    && t .idle && leb (natAbs (x -ℤ inForce z)) (s .tracking .width)
+    && t .idle && not (t .contact) && leb (natAbs (x -ℤ inForce z)) (s .tracking .width)
 
 -- at each q-th calm tick in a row the zero moves to raw, if raw lies in the zero range and the moves' sum stays within the allowance
 abbrev pub isMove : Settings → Zeroing → ℤ → Bool

@@ -15,14 +15,16 @@ ghost use Rattle.outline.specs.OutputFigures.{Displayed};
 ghost use Rattle.outline.specs.DischargeFigures.{Discharged, Requested};
 ghost use Rattle.outline.specs.RefillFigures.{Refills};
 ghost use Rattle.outline.specs.WaitingFigures.{Waited};
+ghost use Rattle.outline.specs.ConnectedFigures.{WhileConnected};
 ghost use Rattle.outline.specs.Owed.{OpeningLaw, RawLaw, SetpointLaw, TimedLaw};
 ghost use Rattle.outline.specs.AnalogOwed.{ScaleLaw, AnalogLaws};
 ghost use Rattle.outline.specs.EveryLine.{ReplyBounded, BytesStay, AnsweredInOrder, RefusedLines, ReadBackOnLine, GatesShutOnLine};
-ghost use Rattle.outline.specs.EveryLine.{TicketOnLine, NeverTogetherOnLine};
+ghost use Rattle.outline.specs.EveryLine.{TicketOnLine, NeverTogetherOnLine, ZeroWhileConnectedOnLine};
 ghost use Rattle.outline.specs.StaysTrue.{Balance, SumsOfHistory, NothingElse, ZeroInForce, TotalOfBatches, GatesShut, InRange};
 ghost use Rattle.outline.specs.StaysTrue.{Refusals, ReadBack, Ticket, BlocksAreRuns, LinesAreRuns, LogsAreRuns, NeverTogether};
 ghost use Rattle.outline.specs.StaysTrue.{DischargeIsNoBatch, FromRange};
 ghost use Rattle.outline.specs.StaysTrue.{WaitingOfWrites, InUseStays, LatestOfWrites, WaitingAside, WriteAside};
+ghost use Rattle.outline.specs.StaysTrue.{ZeroWhileConnected, ZeroThroughRefill, ToZeroOnly, EarlierKeeps};
 
 // The figures of the outline and the laws that the definitions owe. It does nothing: it stands here so that the check's list names
 // them, and misses them if a proof goes.
@@ -54,6 +56,7 @@ pub fn paper_holds()
     ensures requested { λ r. ⌜ Requested ⌝ }
     ensures refills { λ r. ⌜ Refills ⌝ }
     ensures waited { λ r. ⌜ Waited ⌝ }
+    ensures connected { λ r. ⌜ WhileConnected ⌝ }
     ensures opening { λ r. ⌜ OpeningLaw ⌝ }
     ensures raw { λ r. ⌜ RawLaw ⌝ }
     ensures setpoints { λ r. ⌜ SetpointLaw ⌝ }
@@ -86,6 +89,10 @@ pub fn every_run()
     ensures latest { λ r. ⌜ LatestOfWrites ⌝ }
     ensures waiting_aside { λ r. ⌜ WaitingAside ⌝ }
     ensures write_aside { λ r. ⌜ WriteAside ⌝ }
+    ensures connected { λ r. ⌜ ZeroWhileConnected ⌝ }
+    ensures refill { λ r. ⌜ ZeroThroughRefill ⌝ }
+    ensures zero_only { λ r. ⌜ ToZeroOnly ⌝ }
+    ensures earlier { λ r. ⌜ EarlierKeeps ⌝ }
 {}
 
 // What holds of every tick with a line, for whatever settings and state or for every run. It does nothing, and stands here as
@@ -99,4 +106,5 @@ pub fn every_line()
     ensures gates { λ r. ⌜ GatesShutOnLine ⌝ }
     ensures ticket { λ r. ⌜ TicketOnLine ⌝ }
     ensures apart { λ r. ⌜ NeverTogetherOnLine ⌝ }
+    ensures connected { λ r. ⌜ ZeroWhileConnectedOnLine ⌝ }
 {}

@@ -3,7 +3,7 @@
 ghost use mathlib.Core.Path.{_≡_};
 ghost use mathlib.Core.Bool.{cond};
 ghost use mathlib.Core.List.{[], _∷_};
-ghost use Rattle.outline.specs.Requests.{row1, row2, row3, row4, row5, row6, row7, row9, rowsTo, firstOf, grantOf};
+ghost use Rattle.outline.specs.Requests.{row1, row2, row3, row4, row5, row6, row7, row8, row9, rowsTo, firstOf, grantOf};
 ghost use Rattle.outline.specs.Setpoints.{setpointsFit};
 use types::requests::Outcome;
 use types::requests::Refusal;
@@ -50,15 +50,19 @@ fn idle_ruling(q: Sequence, rest: Outcome) -> Outcome
     Outcome::Refused(Refusal::NotIdle)
 }
 
-// Rows 3 to 5, of zero and tare; `inside` is the test of their own rule.
-fn still_ruling(q: Sequence, x: Weights, inside: bool) -> Outcome
-    ensures { λ r. ⌜ r ≡ firstOf (row3 q ∷ row4 x ∷ row5 inside ∷ []) ⌝ }
+// Rows 3, 8, 4 and 5, of zero and tare. `barred` is the test of row 8, which is to zero only; `inside` is the test of the request's own
+// rule.
+fn still_ruling(q: Sequence, x: Weights, barred: bool, inside: bool) -> Outcome
+    ensures { λ r. ⌜ r ≡ firstOf (row3 q ∷ row8 barred ∷ row4 x ∷ row5 inside ∷ []) ⌝ }
 {
     let stage = q.stage;
     let idle = batch::sequence::is_idle(stage);
     let stable = x.stable;
     if !idle {
         return Outcome::Refused(Refusal::NotIdle);
+    }
+    if barred {
+        return Outcome::Refused(Refusal::ContactClosed);
     }
     if !stable {
         return Outcome::Refused(Refusal::Unstable);
@@ -99,7 +103,7 @@ fn mode_ruling(mode: Mode) -> Outcome
     }
 }
 
-// The table, turned: the rows that each request can meet, in numerical order, and the first that applies.
+// The table, turned: the rows that each request can meet, in the order in which they are tested, and the first that applies.
 pub fn ruling(range: Range, mode: Mode, q: Sequence, t: Totals, x: Weights, r: Request) -> Outcome
     ensures { λ o. ⌜ o ≡ firstOf (rowsTo range mode q t x r) ⌝ }
 {
@@ -107,11 +111,11 @@ pub fn ruling(range: Range, mode: Mode, q: Sequence, t: Totals, x: Weights, r: R
         Request::Nothing => return Outcome::Done,
         Request::Zero => {
             let inside = zero::in_zero_range(range, x.raw);
-            return fit_ruling(x, still_ruling(q, x, inside));
+            return fit_ruling(x, still_ruling(q, x, x.contact, inside));
         }
         Request::Tare => {
             let inside = zero::in_tare_range(range, x.divisions);
-            return fit_ruling(x, still_ruling(q, x, inside));
+            return fit_ruling(x, still_ruling(q, x, false, inside));
         }
         Request::TareClear => return idle_ruling(q, Outcome::Done),
         Request::Start => return fit_ruling(x, idle_ruling(q, Outcome::Done)),

@@ -87,7 +87,7 @@ pub enum Reply {
     Refused(u8),
 }
 
-// What a line is answered: 0, a refusal 1 to 7 or 9, or 11 to 14.
+// What a line is answered: 0, a refusal 1 to 9, or 11 to 14.
 pub enum LineAnswer {
     Done,
     Refused(Refusal),

@@ -17,7 +17,7 @@ pub enum Request {
     Discharge,
 }
 
-// The outline's refusals 1 to 7, and 9 of request A1.
+// The outline's refusals 1 to 7, 8 of request A6, and 9 of request A1.
 pub enum Refusal {
     BadTick,
     Overload,
@@ -26,6 +26,7 @@ pub enum Refusal {
     OutsideRules,
     SetpointRules,
     NothingToTakeBack,
+    ContactClosed,
     LossInWeight,
 }
 

@@ -32,8 +32,8 @@ pub struct Panel {
     pub display: Display,
 }
 
-// What a tick weighs, worked out in step 3 and again after step 4. The refill contact stands beside it, so that a rule on requests can
-// ask for it; none does yet.
+// What a tick weighs, worked out in step 3 and again after step 4. The tick's refill contact stands beside it, since a zero and tracking
+// ask for it.
 pub struct Weights {
     pub good: bool,
     pub contact: bool,

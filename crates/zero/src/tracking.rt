@@ -16,7 +16,7 @@ fn is_tracking(t: Tracking) -> bool
     0 < t.time && 0 < t.width
 }
 
-// A tick at which the tracking counter adds one.
+// A tick at which the tracking counter adds one. While the refill contact is closed none does: the weight that comes is no drift.
 fn is_calm(t: Tracking, idle: bool, keyed: bool, x: Weights) -> bool
     ensures { λ r. ⌜ r ≡ calmOf t idle keyed x ⌝ }
 {
@@ -27,6 +27,9 @@ fn is_calm(t: Tracking, idle: bool, keyed: bool, x: Weights) -> bool
         return false;
     }
     if keyed {
+        return false;
+    }
+    if x.contact {
         return false;
     }
     whole::magnitude(x.fine) <= (t.width as u64)

@@ -1,6 +1,8 @@
 -- `every_run` does nothing; what it ensures is proved beside it, each in its own file. Assumes nothing.
 use Rattle.outline.proofs.BookRun.{balance-law, sums-law, nothing-else}
 use Rattle.outline.proofs.ZeroRun.{zero-in-force}
+use Rattle.outline.proofs.ConnectedLaw.{zero-while-connected, zero-through-refill, to-zero-only}
+use Rattle.outline.proofs.EarlierRun.{earlier-keeps}
 use Rattle.outline.proofs.TotalRun.{total-of-batches}
 use Rattle.outline.proofs.GatesRun.{gates-shut}
 use Rattle.outline.proofs.DischargeLaw.{never-together, discharge-is-no-batch}
@@ -23,7 +25,7 @@ returns c = (
       nothing-else,
       (
         zero-in-force,
-        (total-of-batches, (gates-shut, (in-range, (refusals, (read-back, (ticket, (blocks-are-runs, (lines-are-runs, (logs-are-runs, (never-together, (discharge-is-no-batch, (from-range, (waiting-of-writes, (in-use-stays, (latest-of-writes, (waiting-aside, write-aside)))))))))))))))),
+        (total-of-batches, (gates-shut, (in-range, (refusals, (read-back, (ticket, (blocks-are-runs, (lines-are-runs, (logs-are-runs, (never-together, (discharge-is-no-batch, (from-range, (waiting-of-writes, (in-use-stays, (latest-of-writes, (waiting-aside, (write-aside, (zero-while-connected, (zero-through-refill, (to-zero-only, earlier-keeps)))))))))))))))))))),
       ),
     ),
   ),

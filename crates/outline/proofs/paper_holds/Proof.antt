@@ -14,6 +14,7 @@ use Rattle.outline.proofs.OutputFigures.{displayed}
 use Rattle.outline.proofs.DischargeFigures.{discharged, requested}
 use Rattle.outline.proofs.RefillFigures.{refills}
 use Rattle.outline.proofs.WaitingFigures.{waited}
+use Rattle.outline.proofs.ConnectedFigures.{while-connected}
 use Rattle.outline.proofs.OpeningLaw.{opening-law}
 use Rattle.outline.proofs.RawLaw.{raw-law}
 use Rattle.outline.proofs.SetpointLaw.{setpoint-law}
@@ -24,7 +25,7 @@ use Rattle.outline.proofs.paper_holds.Statement.{statement}
 use Rattle.outline.proofs.paper_holds.Tie as tie
 
 returns : tie.Need-returns
-returns c = (starred, (runs, (table, (batches, (letters, (lines, (logs, (inputs, (tickets, (weighed, (refused, (staged, (booked, (finished, (received, (spoken, (logged, (commanded, (opened, (asked, (sequenced, (tracked, (displayed, (discharged, (requested, (refills, (waited, (opening-law, (raw-law, (setpoint-law, (timed-law, (scale-law, analog-laws))))))))))))))))))))))))))))))))
+returns c = (starred, (runs, (table, (batches, (letters, (lines, (logs, (inputs, (tickets, (weighed, (refused, (staged, (booked, (finished, (received, (spoken, (logged, (commanded, (opened, (asked, (sequenced, (tracked, (displayed, (discharged, (requested, (refills, (waited, (while-connected, (opening-law, (raw-law, (setpoint-law, (timed-law, (scale-law, analog-laws)))))))))))))))))))))))))))))))))
 
 pub paper-holds-spec : {M : Type 1} → statement M
 paper-holds-spec = tie.close (tie.spec returns)

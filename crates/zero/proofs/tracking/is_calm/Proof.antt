@@ -25,15 +25,27 @@ returns-3 c =
     let e = c .before .before in
     simp (sym (e .before .is-fit .ensures) ∙ not-false _ (e .if1 .left), not-false (e .before .before .args .idle) (c .before .if2 .left), c .if3 .taken)
 
+returns-4 : tie.Need-returns-4
+returns-4 c =
+    let k = c .before in
+    let e = k .before .before in
+    simp (
+      sym (e .before .is-fit .ensures) ∙ not-false _ (e .if1 .left),
+      not-false (e .before .before .args .idle) (k .before .if2 .left),
+      k .if3 .left,
+      c .if4 .taken,
+    )
+
 magnitude-requires : tie.Need-magnitude-requires
 magnitude-requires c κs = search needs
 
 cast-result : tie.Need-cast-result
 cast-result c = search needs
 
-returns-4 : tie.Need-returns-4
-returns-4 c =
-    let k = c .before .before .before in
+returns-5 : tie.Need-returns-5
+returns-5 c =
+    let o = c .before .before .before in
+    let k = o .before in
     let e = k .before .before in
     let f : SFits w64 (e .before .before .args .x .fine) = search sfits-of in
     simp (
@@ -42,9 +54,10 @@ returns-4 c =
       sym (e .before .is-fit .ensures) ∙ not-false _ (e .if1 .left),
       not-false (e .before .before .args .idle) (k .before .if2 .left),
       k .if3 .left,
+      o .if4 .left,
     )
 
 pub is-calm-spec : {M : Type 1} → statement M
 is-calm-spec =
     tie.close
-    (tie.spec is-fit-requires returns returns-2 returns-3 magnitude-requires cast-result returns-4)
+    (tie.spec is-fit-requires returns returns-2 returns-3 returns-4 magnitude-requires cast-result returns-5)

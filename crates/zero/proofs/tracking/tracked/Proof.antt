@@ -15,7 +15,7 @@ use Rattle.zero.proofs.tracking.tracked.Statement.{statement}
 use Rattle.zero.proofs.tracking.tracked.Tie as tie
 
 calm-small : (t : Tracking) (idle keyed : Bool) (x : Weights) → calmOf t idle keyed x ≡ true → natAbs (x .fine) ≤ t .width
-calm-small t idle keyed x e = leb-true (natAbs (x .fine)) (t .width) (and-right (fitOf x && idle && not keyed) _ e)
+calm-small t idle keyed x e = leb-true (natAbs (x .fine)) (t .width) (and-right (fitOf x && idle && not keyed && not (x .contact)) _ e)
 
 width-small : (s : tie.Start) → s .args .s .tracking .width ≤ 255
 width-small s = omega arith
