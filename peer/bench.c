@@ -8,6 +8,7 @@
  *     the 25 settings, in the order of the outline's table, the discharge's three behind them
  *     the 7 setpoints, in the order of the command SS
  *     the count of the ticks before the first round
+ *     the refill contact of every tick: 0 open, else closed
  * then 16 lines of 64 bytes, each a serial command with its CR LF and zeros behind it, and up to three blocks of 4,096 counts.
  *
  * A round is three blocks. Before a block the modes 1, 2 and 5 have a tick with a request: the setpoints, a start, a stop. Before the first
@@ -19,7 +20,7 @@
 #include <stdio.h>
 #include <string.h>
 
-enum { NUMBER_BYTES = 3, NUMBERS = 2 + SETTING_NUMBERS + 7 + 1, LINES = 16, LINE_BYTES = 64, BLOCKS = 3, REPLY_ROOM = 64 };
+enum { NUMBER_BYTES = 3, NUMBERS = 2 + SETTING_NUMBERS + 7 + 2, LINES = 16, LINE_BYTES = 64, BLOCKS = 3, REPLY_ROOM = 64 };
 
 /* All of the input. */
 struct input {
@@ -39,6 +40,7 @@ struct run {
     struct settings s;
     struct state st;
     struct setpoints points;
+    bool contact;
     struct seen seen;
     uint64_t ticks;
     uint8_t reply[REPLY_ROOM];
@@ -109,14 +111,14 @@ static void between(struct run *run, enum request_kind kind)
     struct outcome o;
     struct outputs out;
 
-    tick(&run->s, &run->st, 0, false, r, &o, &out);
+    tick(&run->s, &run->st, 0, run->contact, r, &o, &out);
     run->ticks++;
 }
 
 static void block_ticks(struct run *run, enum request_kind kind, const int32_t *counts, size_t n)
 {
     between(run, kind);
-    run_block(&run->s, &run->st, counts, n, false);
+    run_block(&run->s, &run->st, counts, n, run->contact);
     run->ticks += n;
 }
 
@@ -130,7 +132,7 @@ static void unasked_ticks(struct run *run, enum request_kind kind, const int32_t
         struct outcome o;
         struct outputs out;
 
-        tick(&run->s, &run->st, counts[i], false, none, &o, &out);
+        tick(&run->s, &run->st, counts[i], run->contact, none, &o, &out);
         look(&seen, o.number != ANSWER_DONE, &out);
     }
     run->seen = seen;
@@ -151,7 +153,7 @@ static void asked_ticks(struct run *run, const int32_t *counts, size_t n)
         struct outputs out;
 
         r.kind = asked[i % (sizeof asked / sizeof asked[0])];
-        tick(&run->s, &run->st, counts[i], false, r, &o, &out);
+        tick(&run->s, &run->st, counts[i], run->contact, r, &o, &out);
         look(&seen, o.number != ANSWER_DONE, &out);
     }
     run->seen = seen;
@@ -165,7 +167,8 @@ static void line_ticks(struct run *run, uint8_t lines[LINES][LINE_BYTES], const 
     for (size_t i = 0; i < n; i++) {
         struct outputs out;
         size_t replied;
-        const int answer = line_tick(&run->s, &run->st, counts[i], false, lines[i % LINES], LINE_BYTES, run->reply, REPLY_ROOM, &replied, &out);
+        const int answer = line_tick(&run->s, &run->st, counts[i], run->contact, lines[i % LINES], LINE_BYTES, run->reply, REPLY_ROOM,
+                                     &replied, &out);
 
         look(&seen, answer >= ANSWER_BAD_TICK && answer <= ANSWER_MODE, &out);
         seen.flags ^= (uint32_t)(answer == ANSWER_DONE) << 11;
@@ -189,8 +192,8 @@ static int64_t big_endian(const uint8_t *at, size_t width)
 
 static uint32_t image_tick(struct run *run, int32_t count, uint32_t request, uint8_t answer[PRESSGULLY_ANSWER])
 {
-    return pressgully_tick(run->settings, PRESSGULLY_SETTINGS, run->image, PRESSGULLY_STATE, count, false, request, run->set, PRESSGULLY_POINTS,
-                           answer, PRESSGULLY_ANSWER);
+    return pressgully_tick(run->settings, PRESSGULLY_SETTINGS, run->image, PRESSGULLY_STATE, count, run->contact, request, run->set,
+                           PRESSGULLY_POINTS, answer, PRESSGULLY_ANSWER);
 }
 
 /* Opens the images, and has them take the ticks that `st` took before the first round. */
@@ -204,12 +207,12 @@ static void begin_images(struct run *run, const struct given *g, const int32_t *
     memcpy(run->set, &run->points, sizeof run->set);
     pressgully_open(run->settings, PRESSGULLY_SETTINGS, run->image, PRESSGULLY_STATE);
     image_tick(run, 0, PRESSGULLY_SET, answer);
-    pressgully_block(run->settings, PRESSGULLY_SETTINGS, run->image, PRESSGULLY_STATE, first, 1, false);
+    pressgully_block(run->settings, PRESSGULLY_SETTINGS, run->image, PRESSGULLY_STATE, first, 1, run->contact);
     image_tick(run, 0, PRESSGULLY_START, answer);
     image_tick(run, *first, PRESSGULLY_NOTHING, answer);
     image_tick(run, *first, PRESSGULLY_TARE_CLEAR, answer);
-    pressgully_line(run->settings, PRESSGULLY_SETTINGS, run->image, PRESSGULLY_STATE, *first, false, line, LINE_BYTES, run->reply, REPLY_ROOM,
-                    answer, PRESSGULLY_ANSWER);
+    pressgully_line(run->settings, PRESSGULLY_SETTINGS, run->image, PRESSGULLY_STATE, *first, run->contact, line, LINE_BYTES, run->reply,
+                    REPLY_ROOM, answer, PRESSGULLY_ANSWER);
 }
 
 /* What `look` looks at. */
@@ -269,7 +272,7 @@ int main(void)
     static const uint32_t asked_image[BLOCKS] = { PRESSGULLY_SET, PRESSGULLY_START, PRESSGULLY_STOP };
     const size_t got = fread(&in, 1, sizeof in, stdin);
     const size_t given = got < sizeof in - sizeof in.counts ? 0 : (got - (sizeof in - sizeof in.counts)) / NUMBER_BYTES;
-    const int32_t mode = number(in.numbers[0]), rounds = number(in.numbers[1]), first = number(in.numbers[NUMBERS - 1]);
+    const int32_t mode = number(in.numbers[0]), rounds = number(in.numbers[1]), first = number(in.numbers[NUMBERS - 2]);
     const uint8_t (*points)[NUMBER_BYTES] = (const uint8_t (*)[NUMBER_BYTES])in.numbers + 2 + SETTING_NUMBERS;
     struct given g;
 
@@ -283,6 +286,7 @@ int main(void)
         number(points[0]), number(points[1]), number(points[2]), number(points[3]), number(points[4]), number(points[5]),
         number(points[6])
     };
+    run.contact = number(in.numbers[NUMBERS - 1]) != 0;
     for (size_t i = 0; i < BLOCKS * BLOCK_LIMIT; i++)
         counts[i] = number(in.counts[i]);
 

@@ -5,6 +5,7 @@
 //     2 to 26    the settings, in the order of the outline's table, and then those of a discharge
 //     27 to 33   the setpoints, in the order of the command SS
 //     34         the count of the ticks before the first round
+//     35         the refill contact of every tick: 0 open, else closed
 //
 // Then 16 lines of 64 bytes, each a serial command with its CR LF and zeros behind it, and up to three blocks of 4,096 counts. A number
 // that the input is too short for is 0.
@@ -15,11 +16,11 @@ use types::stages::Setpoints;
 const NUMBER_BYTES: usize = 3;
 
 // The numbers before the lines, and where the lines and the counts begin.
-const NUMBERS: usize = 35;
+const NUMBERS: usize = 36;
 
-const LINES_AT: usize = 105;
+const LINES_AT: usize = 108;
 
-const COUNTS_AT: usize = 1_129;
+const COUNTS_AT: usize = 1_132;
 
 const BLOCK: usize = 4_096;
 
@@ -32,6 +33,7 @@ pub(crate) struct Head {
     pub rounds: u32,
     pub points: Setpoints,
     pub first: i32,
+    pub contact: bool,
 }
 
 fn joined(a: u8, b: u8, c: u8) -> u32
@@ -114,6 +116,7 @@ pub(crate) fn head_of(bytes: &[u8]) -> Head {
         rounds: number(bytes, 1),
         points: setpoints(bytes),
         first: signed(bytes, 34),
+        contact: 0 < number(bytes, 35),
     }
 }
 

@@ -57,15 +57,16 @@ fn request_of(block: u64, points: Setpoints) -> Request {
 fn started(s: Settings, head: Head, bytes: &[u8], reply: &mut [u8]) -> Run {
     let first = [head.first];
     let points = head.points;
+    let contact = head.contact;
     let run = Run {
         state: open_state(s),
         seen: unseen(),
         ticks: 0,
     };
-    let run = block_ticks(s, run, Request::Set(points), &first);
-    let run = unasked_ticks(s, run, Request::Start, &first);
-    let run = asked_ticks(s, run, points, &first);
-    line_ticks(s, run, input::lines(bytes), &first, reply)
+    let run = block_ticks(s, run, Request::Set(points), &first, contact);
+    let run = unasked_ticks(s, run, Request::Start, &first, contact);
+    let run = asked_ticks(s, run, points, &first, contact);
+    line_ticks(s, run, input::lines(bytes), &first, contact, reply)
 }
 
 // One block in the mode that is asked for.
@@ -79,11 +80,12 @@ fn turned(
     reply: &mut [u8],
 ) -> Run {
     let mode = head.mode;
+    let contact = head.contact;
     match mode {
-        1 => return block_ticks(s, run, request_of(block, head.points), counts),
-        2 => return unasked_ticks(s, run, request_of(block, head.points), counts),
-        3 => return asked_ticks(s, run, head.points, counts),
-        _ => return line_ticks(s, run, input::lines(bytes), counts, reply),
+        1 => return block_ticks(s, run, request_of(block, head.points), counts, contact),
+        2 => return unasked_ticks(s, run, request_of(block, head.points), counts, contact),
+        3 => return asked_ticks(s, run, head.points, counts, contact),
+        _ => return line_ticks(s, run, input::lines(bytes), counts, contact, reply),
     }
 }
 

@@ -28,21 +28,27 @@ fn more(ticks: u64, n: usize) -> u64 {
 }
 
 // The tick between two blocks.
-fn between(s: Settings, st: State, request: Request) -> State {
+fn between(s: Settings, st: State, request: Request, contact: bool) -> State {
     let ticked = tick(
         s,
         st,
         Input {
             count: 0,
-            contact: false,
+            contact,
             request,
         },
     );
     ticked.state
 }
 
-pub(crate) fn block_ticks(s: Settings, run: Run, request: Request, counts: &[i32]) -> Run {
-    let done = run_block(s, between(s, run.state, request), counts, false);
+pub(crate) fn block_ticks(
+    s: Settings,
+    run: Run,
+    request: Request,
+    counts: &[i32],
+    contact: bool,
+) -> Run {
+    let done = run_block(s, between(s, run.state, request, contact), counts, contact);
     let state = done.state;
     let seen = run.seen;
     Run {
@@ -52,13 +58,19 @@ pub(crate) fn block_ticks(s: Settings, run: Run, request: Request, counts: &[i32
     }
 }
 
-pub(crate) fn unasked_ticks(s: Settings, run: Run, request: Request, counts: &[i32]) -> Run {
-    let mut state = between(s, run.state, request);
+pub(crate) fn unasked_ticks(
+    s: Settings,
+    run: Run,
+    request: Request,
+    counts: &[i32],
+    contact: bool,
+) -> Run {
+    let mut state = between(s, run.state, request, contact);
     let mut seen = run.seen;
     let mut i = 0;
     while i < counts.len() {
         let count = counts[i];
-        let ticked = unasked_tick(s, state, count, false);
+        let ticked = unasked_tick(s, state, count, contact);
         state = ticked.state;
         seen = looked(seen, ticked.answer);
         i += 1;
@@ -87,17 +99,24 @@ fn request_of(i: usize, points: Setpoints) -> Request {
     }
 }
 
-pub(crate) fn asked_ticks(s: Settings, run: Run, points: Setpoints, counts: &[i32]) -> Run {
+pub(crate) fn asked_ticks(
+    s: Settings,
+    run: Run,
+    points: Setpoints,
+    counts: &[i32],
+    contact: bool,
+) -> Run {
     let mut state = run.state;
     let mut seen = run.seen;
     let mut i = 0;
     while i < counts.len() {
+        let count = counts[i];
         let ticked = tick(
             s,
             state,
             Input {
-                count: counts[i],
-                contact: false,
+                count,
+                contact,
                 request: request_of(i, points),
             },
         );
@@ -127,13 +146,14 @@ pub(crate) fn line_ticks(
     run: Run,
     lines: &[u8],
     counts: &[i32],
+    contact: bool,
     reply: &mut [u8],
 ) -> Run {
     let mut state = run.state;
     let mut seen = run.seen;
     let mut i = 0;
     while i < counts.len() {
-        let ticked = line_tick(s, state, counts[i], false, line_of(lines, i), reply);
+        let ticked = line_tick(s, state, counts[i], contact, line_of(lines, i), reply);
         state = ticked.state;
         seen = looked_at_line(seen, ticked);
         i += 1;

@@ -32,9 +32,11 @@ pub fn run_block(s: Settings, mut st: State, counts: &[i32], contact: bool) -> B
     while i < counts.len() {
         let count = counts[i];
         let raw = weight::raw::raw_of(s.calibration, count);
-        st.stability = weight::stability::steadied(s.steadiness, st.stability, st.book.last, raw);
+        // In a local too, and so in a register: it is weighed with at once, and what was just written in pieces is slow to read whole.
+        let steadied = weight::stability::steadied(s.steadiness, st.stability, st.book.last, raw);
+        st.stability = steadied;
         st.book = daybook::book_tick(st.book, raw, contact);
-        let x = weight::weigh(s, st.stability, st.weighing, raw, contact);
+        let x = weight::weigh(s, steadied, st.weighing, raw, contact);
         let sequence = st.sequence;
         let stage = sequence.stage;
         let idle = batch::sequence::is_idle(stage);

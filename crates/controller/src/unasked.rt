@@ -15,9 +15,11 @@ pub fn unasked_tick(s: Settings, mut st: State, count: i32, contact: bool) -> Ti
     ensures number { λ r. ⌜ outcomeNumber (r .answer .outcome) ≡ 0 ⌝ }
 {
     let raw = weight::raw::raw_of(s.calibration, count);
-    st.stability = weight::stability::steadied(s.steadiness, st.stability, st.book.last, raw);
+    // In a local too, as in a block.
+    let steadied = weight::stability::steadied(s.steadiness, st.stability, st.book.last, raw);
+    st.stability = steadied;
     st.book = daybook::book_tick(st.book, raw, contact);
-    let x = weight::weigh(s, st.stability, st.weighing, raw, contact);
+    let x = weight::weigh(s, steadied, st.weighing, raw, contact);
     let sequence = st.sequence;
     let stage = sequence.stage;
     let idle = batch::sequence::is_idle(stage);

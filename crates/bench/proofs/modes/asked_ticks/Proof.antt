@@ -6,19 +6,19 @@ use Rattle.bench.proofs.modes.asked_ticks.Statement.{statement}
 use Rattle.bench.proofs.modes.asked_ticks.Tie as tie
 
 abbrev Inv-loop : tie.InvT-loop
-Inv-loop s run points counts state₀ seen₀ i₀ state seen i = (i ≤ length counts) × (length counts < 2 ^ 64)
+Inv-loop s run points counts contact state₀ seen₀ i₀ state seen i = (i ≤ length counts) × (length counts < 2 ^ 64)
 
 abbrev μ-loop : tie.MeasureT-loop
-μ-loop s run points counts state₀ seen₀ i₀ state seen i = length counts - i
+μ-loop s run points counts contact state₀ seen₀ i₀ state seen i = length counts - i
 
 loop-holds : tie.Need-loop-holds Inv-loop μ-loop
 loop-holds c = (zero-le, c .before .before .good .1 .1 .1 .0 .0)
 
-mul-t9 : tie.Need-mul-t9 Inv-loop μ-loop
-mul-t9 c = search needs
+mul-count : tie.Need-mul-count Inv-loop μ-loop
+mul-count c = search needs
 
-shared-slice-copy-out-t12 : tie.Need-shared-slice-copy-out-t12 Inv-loop μ-loop
-shared-slice-copy-out-t12 c = search needs
+shared-slice-copy-out-count : tie.Need-shared-slice-copy-out-count Inv-loop μ-loop
+shared-slice-copy-out-count c = search needs
 
 request-of-requires : tie.Need-request-of-requires Inv-loop μ-loop
 request-of-requires c κs = search needs
@@ -51,8 +51,8 @@ asked-ticks-spec =
     Inv-loop
     μ-loop
     loop-holds
-    mul-t9
-    shared-slice-copy-out-t12
+    mul-count
+    shared-slice-copy-out-count
     request-of-requires
     tick-requires
     looked-requires

@@ -7,10 +7,10 @@ use Rattle.bench.proofs.modes.line_ticks.Statement.{statement}
 use Rattle.bench.proofs.modes.line_ticks.Tie as tie
 
 abbrev Inv-loop : tie.InvT-loop
-Inv-loop s run lines counts reply₀ state₀ seen₀ i₀ reply state seen i = (length reply ≡ length reply₀) × (i ≤ length counts) × (length counts < 2 ^ 64)
+Inv-loop s run lines counts contact reply₀ state₀ seen₀ i₀ reply state seen i = (length reply ≡ length reply₀) × (i ≤ length counts) × (length counts < 2 ^ 64)
 
 abbrev μ-loop : tie.MeasureT-loop
-μ-loop s run lines counts reply₀ state₀ seen₀ i₀ reply state seen i = length counts - i
+μ-loop s run lines counts contact reply₀ state₀ seen₀ i₀ reply state seen i = length counts - i
 
 loop-holds : tie.Need-loop-holds Inv-loop μ-loop
 loop-holds c = (refl, zero-le, c .before .before .before .before .good .1 .1 .1 .0 .0)

@@ -6,10 +6,10 @@ use Rattle.bench.proofs.modes.unasked_ticks.Statement.{statement}
 use Rattle.bench.proofs.modes.unasked_ticks.Tie as tie
 
 abbrev Inv-loop : tie.InvT-loop
-Inv-loop s run counts state₀ seen₀ i₀ state seen i = (i ≤ length counts) × (length counts < 2 ^ 64)
+Inv-loop s run counts contact state₀ seen₀ i₀ state seen i = (i ≤ length counts) × (length counts < 2 ^ 64)
 
 abbrev μ-loop : tie.MeasureT-loop
-μ-loop s run counts state₀ seen₀ i₀ state seen i = length counts - i
+μ-loop s run counts contact state₀ seen₀ i₀ state seen i = length counts - i
 
 between-requires : tie.Need-between-requires Inv-loop μ-loop
 between-requires c κs = search needs
