@@ -178,8 +178,8 @@ module _ (s : Settings) (st : State) (count : ℤ) (contact : Bool) (x : Weights
   abbrev moved : State
   moved = withWeighing begun (trackedOf s (idleNow begun) false x (begun .weighing))
 
-  abbrev pub unasked : State
-  unasked = pickState false moved (steppedOf s moved x)
+  abbrev pub askedNothing : State
+  askedNothing = pickState false moved (steppedOf s moved x)
 
   module _ (ex : x ≡ weightsOf s begun (rawOf (s .calibration) count) contact) where
     done : outcome.Done ≡ rulingOf s begun x request.Nothing
@@ -192,12 +192,12 @@ module _ (s : Settings) (st : State) (count : ℤ) (contact : Bool) (x : Weights
         ex
         ∙ sym (λ k. weighOf s (begun .stability) (begun .weighing) ((ap rawIn ex ∙ raw-again s (begun .stability) (begun .weighing) (rawOf (s .calibration) count) contact) k) ((ap (λ (y : Weights). y .contact) ex ∙ contact-again s (begun .stability) (begun .weighing) (rawOf (s .calibration) count) contact) k))
 
-    pub unasked-next : unasked ≡ nextOf s st (unaskedOf count contact)
+    pub unasked-next : askedNothing ≡ nextOf s st (unaskedOf count contact)
     unfolding grantedOf
     unasked-next = ran-next s st (unaskedOf count contact) x outcome.Done request.Nothing x ex done refl again
 
-    pub unasked-leaves : (told length : ℕ) (blank image day answer : List ℕ) → Holds image unasked → day ≡ closedPut closed.Nothing blank
-        → answer ≡ outputsPut told length (outputsOf s (answeredOf outcome.Done closed.Nothing unasked) x unasked) day
+    pub unasked-leaves : (told length : ℕ) (blank image day answer : List ℕ) → Holds image askedNothing → day ≡ closedPut closed.Nothing blank
+        → answer ≡ outputsPut told length (outputsOf s (answeredOf outcome.Done closed.Nothing askedNothing) x askedNothing) day
         → Ran s st (unaskedOf count contact) outcome.Done told length blank image answer
     unfolding grantedOf
     unasked-leaves told length blank image day answer h eb ea =

@@ -2,7 +2,7 @@
 -- step 4, done in two: the requests of the batch, and those beside them; and the answer, which they put in two. No promise of a C call
 -- names these.
 use Prim.Native.Nat.{ℕ}
-use mathlib.Core.Bool.{Bool, true, false, cond}
+use mathlib.Core.Bool.{Bool, cond}
 use mathlib.Core.List.{List, [], _∷_, _++_}
 use Rattle.places.specs.Places.{Place, row, putAll, flagTag}
 use Rattle.types.specs.declared.daybook.Closed.{Closed}
@@ -11,6 +11,7 @@ use Rattle.types.specs.declared.machine.State.{State}
 use Rattle.outline.specs.Stages.{startSequence, dischargeSequence}
 use Rattle.outline.specs.Parts.{withSequence}
 use Rattle.outline.specs.Requests.{stoppedOf, storedOf}
+use Rattle.outline.specs.Kinds.{requestKind}
 use Rattle.outline.specs.Numbers.{stageNumber, analogNumber}
 use Rattle.board.specs.AnswerImage.{weightRows, weightNumbers, gateRows, gateNumbers, signalRows, signalNumbers, lengthByte}
 use Rattle.board.specs.AnswerImage.{closedFlag, grossRows, grossNumbers, closedBook, dayRows, dayNumbers, valueRows, valueNumbers}
@@ -26,35 +27,11 @@ rawIn x = cond (x .good) (raw.Tenths (x .raw)) raw.Bad
 
 -- step 6 is passed over
 abbrev pub heldBy : Request → Bool
-heldBy request.Nothing = false
-heldBy request.Zero = false
-heldBy request.Tare = false
-heldBy request.TareClear = false
-heldBy request.Start = true
-heldBy request.Stop = true
-heldBy (request.Set p) = false
-heldBy request.TotalClear = false
-heldBy request.Undo = false
-heldBy request.ShowGross = false
-heldBy request.ShowNet = false
-heldBy request.DayClose = false
-heldBy request.Discharge = true
+heldBy r = requestKind r .skips
 
 -- a zero was keyed
 abbrev pub keyedBy : Request → Bool
-keyedBy request.Nothing = false
-keyedBy request.Zero = true
-keyedBy request.Tare = false
-keyedBy request.TareClear = false
-keyedBy request.Start = false
-keyedBy request.Stop = false
-keyedBy (request.Set p) = false
-keyedBy request.TotalClear = false
-keyedBy request.Undo = false
-keyedBy request.ShowGross = false
-keyedBy request.ShowNet = false
-keyedBy request.DayClose = false
-keyedBy request.Discharge = false
+keyedBy r = requestKind r .zeroes
 
 -- the request but for those of the batch, which turn the sequence or write setpoints, and what these make of the state
 abbrev pub besideBatch : Request → Request

@@ -86,38 +86,38 @@ unfolding settledOf enteredOf
 settled-sequence s st i e = decided-sequence s _ _ (i .request) e
 
 -- ---- step 6: which moves finish a batch
-abbrev finishOf : Move → Bool
-finishOf (To stage) = false
-finishOf (Fail e) = false
-finishOf (Finish j) = true
-finishOf Emptied = false
+abbrev isFinish : Move → Bool
+isFinish (To stage) = false
+isFinish (Fail e) = false
+isFinish (Finish j) = true
+isFinish Emptied = false
 
-landed : (q : Sequence) (m : Move) → landOf q m .finished ≡ finishOf m
+landed : (q : Sequence) (m : Move) → landOf q m .finished ≡ isFinish m
 unfolding landOf
 landed q (To stage) = refl
 landed q (Fail e) = refl
 landed q (Finish j) = refl
 landed q Emptied = refl
 
-after-timed : (t : Timing) (stay : ℕ → Stage) (m : Move) → finishOf m ≡ false → finishOf (timed t stay m) ≡ false
+after-timed : (t : Timing) (stay : ℕ → Stage) (m : Move) → isFinish m ≡ false → isFinish (timed t stay m) ≡ false
 after-timed timing.Over stay m e = e
 after-timed (timing.Still t) stay m e = refl
 
-after-until : (t : Bool) (stay : Stage) (m : Move) → finishOf (until t stay m) ≡ t && finishOf m
+after-until : (t : Bool) (stay : Stage) (m : Move) → isFinish (until t stay m) ≡ t && isFinish m
 after-until true stay m = refl
 after-until false stay m = refl
 
-after-start : (m : Mode) (p : Setpoints) (f : Facts) → finishOf (afterStart m p f) ≡ false
+after-start : (m : Mode) (p : Setpoints) (f : Facts) → isFinish (afterStart m p f) ≡ false
 unfolding afterStart
 after-start m p f = go (eqb (p .target) 0) (f .small)
   where
-    go : (none reached : Bool) → finishOf (cond none (Fail error.NoFinal) (cond reached (Fail error.Reached) (To (firstFlow m p)))) ≡ false
+    go : (none reached : Bool) → isFinish (cond none (Fail error.NoFinal) (cond reached (Fail error.Reached) (To (firstFlow m p)))) ≡ false
     go true reached = refl
     go false true = refl
     go false false = refl
 
 -- that of stage 11, when stable
-moved : (b : Batching) (p : Setpoints) (stage : Stage) (f : Facts) → finishOf (moveOf b p stage f) ≡ eqb (stageNumber stage) 11 && f .stable
+moved : (b : Batching) (p : Setpoints) (stage : Stage) (f : Facts) → isFinish (moveOf b p stage f) ≡ eqb (stageNumber stage) 11 && f .stable
 unfolding moveOf
 moved b p Idle f = refl
 moved b p (StartDelay t) f = after-timed (waitOf (b .start) t) _ _ (after-start (b .mode) p f)

@@ -17,6 +17,8 @@ use Rattle.types.specs.declared.analog.Scale.{Scale}
 use Rattle.types.specs.declared.weight.Weights.{Weights}
 use Rattle.types.specs.declared.requests.Request.{Request}
 use Rattle.types.specs.declared.requests.Request.the-variants as request
+use Rattle.types.specs.declared.stages.Write.{Write}
+use Rattle.types.specs.declared.stages.Write.the-variants as write
 use Rattle.types.specs.declared.lines.Command.{Command}
 use Rattle.types.specs.declared.lines.Command.the-variants as command
 use Rattle.types.specs.declared.machine.State.{State}
@@ -30,6 +32,7 @@ use Rattle.outline.specs.Totals.{noneBack}
 use Rattle.outline.specs.Analog.{distanceOf, currentOf, voltageOf}
 use Rattle.outline.specs.Tick.{enteredOf, weightsOf}
 use Rattle.outline.specs.Numbers.{stageNumber}
+use Rattle.outline.specs.Kinds.{requestKind}
 use Rattle.outline.specs.Lines.{isCrLf, lineOf, isPrefixed, prefixLength, bodyOf}
 use Rattle.outline.specs.Replies.{askedOf, dueText}
 
@@ -91,20 +94,9 @@ abbrev pub isOutside : Settings → Weights → ℕ → Bool
 isOutside s x name = cond (eqb name zero) (not (inZeroRange (s .range) (x .raw))) (not (inTareRange (s .range) (x .divisions)))
 
 -- row 6, "setpoint rules broken"
-abbrev pub isBroken : Settings → Request → Bool
-isBroken s request.Nothing = false
-isBroken s request.Zero = false
-isBroken s request.Tare = false
-isBroken s request.TareClear = false
-isBroken s request.Start = false
-isBroken s request.Stop = false
-isBroken s (request.Set p) = not (setpointsFit (s .batching .mode) p)
-isBroken s request.TotalClear = false
-isBroken s request.Undo = false
-isBroken s request.ShowGross = false
-isBroken s request.ShowNet = false
-isBroken s request.DayClose = false
-isBroken s request.Discharge = false
+abbrev pub isBroken : Settings → Write → Bool
+isBroken s write.Nothing = false
+isBroken s (write.Points p) = not (setpointsFit (s .batching .mode) p)
 
 -- A1, row 9: "in mode 2"
 abbrev pub isLoss : Mode → Bool
@@ -130,7 +122,7 @@ tableOf s st x r =
     ∷ row 8 (x .contact) (zero ∷ [])
     ∷ row 4 (not (x .stable)) (zero ∷ tare ∷ [])
     ∷ row 5 (isOutside s x (nameOf r)) (zero ∷ tare ∷ [])
-    ∷ row 6 (isBroken s r) (setpoints ∷ [])
+    ∷ row 6 (isBroken s (requestKind r .writes)) (setpoints ∷ [])
     ∷ row 7 (noneBack (st .totals .back)) (undo ∷ [])
     ∷ row 9 (isLoss (s .batching .mode)) (discharge ∷ [])
     ∷ []

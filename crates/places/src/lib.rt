@@ -13,13 +13,13 @@ fn byte_at(s: &[u8], at: usize) -> u8
     if at < s.len() { s[at] } else { 0 }
 }
 
-fn wide(b: u8) -> u32
+fn as_u32(b: u8) -> u32
     ensures { λ r. ⌜ r ≡ b ⌝ }
 {
     b as u32
 }
 
-fn half(b: u8) -> u16
+fn as_u16(b: u8) -> u16
     ensures { λ r. ⌜ r ≡ b ⌝ }
 {
     b as u16
@@ -37,7 +37,7 @@ pub fn u16_at(s: &[u8], at: u16) -> u16
     let a = at as usize;
     let b0 = byte_at(s, a);
     let b1 = byte_at(s, a + 1);
-    half(b0) * 256 + half(b1)
+    as_u16(b0) * 256 + as_u16(b1)
 }
 
 pub fn u32_at(s: &[u8], at: u32) -> u32
@@ -48,7 +48,7 @@ pub fn u32_at(s: &[u8], at: u32) -> u32
     let b1 = byte_at(s, a + 1);
     let b2 = byte_at(s, a + 2);
     let b3 = byte_at(s, a + 3);
-    ((wide(b0) * 256 + wide(b1)) * 256 + wide(b2)) * 256 + wide(b3)
+    ((as_u32(b0) * 256 + as_u32(b1)) * 256 + as_u32(b2)) * 256 + as_u32(b3)
 }
 
 pub fn u64_at(s: &[u8], at: u16) -> u64

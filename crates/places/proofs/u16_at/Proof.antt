@@ -14,14 +14,14 @@ add-byte-at c = search needs
 byte-at-requires-2 : tie.Need-byte-at-requires-2
 byte-at-requires-2 c κs = search needs
 
-half-requires : tie.Need-half-requires
-half-requires c κs = search needs
+as-u16-requires : tie.Need-as-u16-requires
+as-u16-requires c κs = search needs
 
 mul-result : tie.Need-mul-result
 mul-result c = search needs
 
-half-requires-2 : tie.Need-half-requires-2
-half-requires-2 c κs = search needs
+as-u16-requires-2 : tie.Need-as-u16-requires-2
+as-u16-requires-2 c κs = search needs
 
 add-result : tie.Need-add-result
 add-result c = search needs
@@ -37,8 +37,8 @@ u16-at-spec =
     byte-at-requires
     add-byte-at
     byte-at-requires-2
-    half-requires
+    as-u16-requires
     mul-result
-    half-requires-2
+    as-u16-requires-2
     add-result
     returns)

@@ -26,14 +26,14 @@ add-byte-at-3 c = search needs
 byte-at-requires-4 : tie.Need-byte-at-requires-4
 byte-at-requires-4 c κs = search needs
 
-wide-requires : tie.Need-wide-requires
-wide-requires c κs = search needs
+as-u32-requires : tie.Need-as-u32-requires
+as-u32-requires c κs = search needs
 
 mul-result : tie.Need-mul-result
 mul-result c = search needs
 
-wide-requires-2 : tie.Need-wide-requires-2
-wide-requires-2 c κs = search needs
+as-u32-requires-2 : tie.Need-as-u32-requires-2
+as-u32-requires-2 c κs = search needs
 
 add-result : tie.Need-add-result
 add-result c = search needs
@@ -41,8 +41,8 @@ add-result c = search needs
 mul-result-2 : tie.Need-mul-result-2
 mul-result-2 c = search needs
 
-wide-requires-3 : tie.Need-wide-requires-3
-wide-requires-3 c κs = search needs
+as-u32-requires-3 : tie.Need-as-u32-requires-3
+as-u32-requires-3 c κs = search needs
 
 add-result-2 : tie.Need-add-result-2
 add-result-2 c = search needs
@@ -50,8 +50,8 @@ add-result-2 c = search needs
 mul-result-3 : tie.Need-mul-result-3
 mul-result-3 c = search needs
 
-wide-requires-4 : tie.Need-wide-requires-4
-wide-requires-4 c κs = search needs
+as-u32-requires-4 : tie.Need-as-u32-requires-4
+as-u32-requires-4 c κs = search needs
 
 add-result-3 : tie.Need-add-result-3
 add-result-3 c = search needs
@@ -71,14 +71,14 @@ u32-at-spec =
     byte-at-requires-3
     add-byte-at-3
     byte-at-requires-4
-    wide-requires
+    as-u32-requires
     mul-result
-    wide-requires-2
+    as-u32-requires-2
     add-result
     mul-result-2
-    wide-requires-3
+    as-u32-requires-3
     add-result-2
     mul-result-3
-    wide-requires-4
+    as-u32-requires-4
     add-result-3
     returns)
