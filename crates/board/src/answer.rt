@@ -1,11 +1,11 @@
 // The answer of a tick, output by output at its place. The table is that of specs/AnswerImage.antt.
 ghost use mathlib.Core.Path.{_≡_};
 ghost use Rattle.places.specs.Places.{putAll};
-ghost use Rattle.outline.specs.Numbers.{analogNumber};
 ghost use Rattle.types.specs.declared.daybook.Closed.the-variants as Closed;
 ghost use Rattle.board.specs.AnswerImage.{weightRows, weightNumbers, gateRows, gateNumbers, signalRows, signalNumbers, lengthByte};
 ghost use Rattle.board.specs.AnswerImage.{grossRows, grossNumbers, floatBits, analogBits, valueRows, valueNumbers};
 ghost use Rattle.board.specs.InPlace.{besideRows, besideNumbers, closedPut, outputsPut};
+use numbers::analog_number;
 use numbers::error_number;
 use numbers::judgement_number;
 use numbers::stage_number;
@@ -43,16 +43,6 @@ fn put_signals(s: &mut [u8], a: Answer)
     places::put_u8(s, 10, error_number(error));
     places::put_flag(s, 11, a.near);
     places::put_flag(s, 12, a.full);
-}
-
-fn analog_number(a: Analog) -> u8
-    ensures { λ r. ⌜ r ≡ analogNumber a ⌝ }
-{
-    match a {
-        Analog::None => 0,
-        Analog::Current(_) => 1,
-        Analog::Voltage(_) => 2,
-    }
 }
 
 // No reply has as many bytes as 256.

@@ -23,9 +23,11 @@ use answer::put_none;
 use asked::is_request;
 use asked::request_by;
 use commands::command_of;
+use controller::block::BLOCK_LIMIT;
 use controller::opening::open;
 use images::given::given_at;
 use images::given::given_refusal;
+use images::parts::STATE_LENGTH;
 use images::parts::book_at;
 use images::parts::panel_at;
 use images::parts::put_book;
@@ -43,6 +45,9 @@ use images::parts::weighing_at;
 use images::possible::is_possible;
 use images::state::bytes_refusal;
 use images::state::earlier_refusal;
+use numbers::NO_REQUEST;
+use numbers::SHORT_BUFFER;
+use numbers::WRONG_LENGTH;
 use numbers::outcome_number;
 use numbers::told_number;
 use replies::Wrote;
@@ -57,22 +62,27 @@ mod answer;
 mod asked;
 mod steps;
 
-// The bytes of a state image, and of an answer.
-const STATE_LENGTH: usize = 288;
-
+// The bytes of an answer.
 const ANSWER_LENGTH: usize = 64;
 
-const BLOCK_LIMIT: usize = 4_096;
+// What the calls answer themselves, as C has it.
+const SETTINGS_REFUSED: u32 = numbers::SETTINGS_REFUSED as u32;
+
+const SHORT: u32 = SHORT_BUFFER as u32;
+
+const LONG_BLOCK: u32 = numbers::LONG_BLOCK as u32;
+
+const IMPOSSIBLE: u32 = numbers::IMPOSSIBLE as u32;
 
 // A wrong length comes first; a: of the settings, b: of the state.
 fn images_refusal(a: u8, b: u8) -> u8
     ensures { λ r. ⌜ r ≡ imagesRefusal a b ⌝ }
 {
-    if a == 20 {
-        return 20;
+    if a == WRONG_LENGTH {
+        return WRONG_LENGTH;
     }
-    if b == 20 {
-        return 20;
+    if b == WRONG_LENGTH {
+        return WRONG_LENGTH;
     }
     if a == 0 {
         return b;
@@ -99,7 +109,7 @@ fn length_refusal(n: usize) -> u8
     if n == STATE_LENGTH {
         return 0;
     }
-    20
+    WRONG_LENGTH
 }
 
 // The opening: fills the state image. What its bytes were is not asked.
@@ -114,7 +124,7 @@ pub extern "C" fn pressgully_open(settings: &[u8], state: &mut [u8]) -> u32
         return why as u32;
     }
     match opened(settings) {
-        Opening::Refused => return 10,
+        Opening::Refused => return SETTINGS_REFUSED,
         Opening::Accepted(_) => {
             // every byte of the opening state's image is 0
             places::clear(state);
@@ -160,10 +170,10 @@ pub extern "C" fn pressgully_grow(settings: &[u8], earlier: &[u8], state: &mut [
         return why as u32;
     }
     if !is_possible(settings, earlier) {
-        return 21;
+        return IMPOSSIBLE;
     }
     match opened(settings) {
-        Opening::Refused => return 10,
+        Opening::Refused => return SETTINGS_REFUSED,
         Opening::Accepted(_) => {
             // in the opening state, all bytes 0, nothing waits
             places::clear(state);
@@ -181,7 +191,7 @@ fn told_by(known: bool, outcome: Outcome) -> u8
     if known {
         return outcome_number(outcome);
     }
-    13
+    NO_REQUEST
 }
 
 // The tick of a buffer that holds a state, in the outline's order; known: its request has a number.
@@ -208,7 +218,7 @@ fn run_tick(
         now (answer .exit) ≡ roomBuffer (toldOf known a) 0 (a .answer) (now (answer .entry))) ⌝ }
 {
     if answer.len() < ANSWER_LENGTH {
-        return 14;
+        return SHORT;
     }
     // 1. to 3. Raw, day book, weights.
     let mut x = steps::enter(s, count, contact, state);
@@ -252,10 +262,10 @@ pub extern "C" fn pressgully_tick(
         return why as u32;
     }
     if !is_possible(settings, state) {
-        return 21;
+        return IMPOSSIBLE;
     }
     match opened(settings) {
-        Opening::Refused => return 10,
+        Opening::Refused => return SETTINGS_REFUSED,
         Opening::Accepted(s) => {
             let known = is_request(request, points);
             let asked = request_by(request, points);
@@ -293,7 +303,7 @@ fn run_line(
         now (answer .exit) ≡ roomBuffer (toldNumber (a .told)) (a .length) (a .answer) (now (answer .entry))) ⌝ }
 {
     if answer.len() < ANSWER_LENGTH {
-        return 14;
+        return SHORT;
     }
     let command = command_of(receive, s.address);
     let request = request_of(command);
@@ -320,8 +330,8 @@ fn run_line(
             put_none(answer);
             steps::track(s, false, x, state);
             steps::step(s, false, x, state);
-            steps::answer(s, Outcome::Done, 14, 0, x, state, answer);
-            return 14;
+            steps::answer(s, Outcome::Done, SHORT_BUFFER, 0, x, state, answer);
+            return SHORT;
         }
     }
 }
@@ -358,10 +368,10 @@ pub extern "C" fn pressgully_line(
         return why as u32;
     }
     if !is_possible(settings, state) {
-        return 21;
+        return IMPOSSIBLE;
     }
     match opened(settings) {
-        Opening::Refused => return 10,
+        Opening::Refused => return SETTINGS_REFUSED,
         Opening::Accepted(s) => {
             return run_line(s, count, contact, receive, reply, state, answer);
         }
@@ -378,7 +388,7 @@ fn run_block(s: Settings, counts: &[i32], contact: bool, state: &mut [u8]) -> u3
         now (state .exit) ≡ imageOf (blockOf s st (now (counts .entry)) contact .state)) ⌝ }
 {
     if BLOCK_LIMIT < counts.len() {
-        return 15;
+        return LONG_BLOCK;
     }
     let mut i = 0;
     while i < counts.len() {
@@ -407,10 +417,10 @@ pub extern "C" fn pressgully_block(
         return why as u32;
     }
     if !is_possible(settings, state) {
-        return 21;
+        return IMPOSSIBLE;
     }
     match opened(settings) {
-        Opening::Refused => return 10,
+        Opening::Refused => return SETTINGS_REFUSED,
         Opening::Accepted(s) => return run_block(s, counts, contact, state),
     }
 }

@@ -9,7 +9,7 @@ use types::machine::State;
 use types::settings::Settings;
 
 // The counts of one block.
-const BLOCK_LIMIT: usize = 4_096;
+pub const BLOCK_LIMIT: usize = 4_096;
 
 // With no request step 4 leaves the state as it is, and step 3's weights serve to the end. The ticks stand in the loop itself: a call that
 // takes the state and gives it back would copy it whole.

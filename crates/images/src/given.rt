@@ -2,6 +2,8 @@
 ghost use mathlib.Core.Path.{_≡_};
 ghost use Rattle.images.specs.GivenImage.{givenLength, givenAt, givenIn};
 ghost use Rattle.images.specs.Buffers.{bytesOf};
+use numbers::IMPOSSIBLE;
+use numbers::WRONG_LENGTH;
 use types::settings::Given;
 
 // The bytes of a settings image.
@@ -101,10 +103,10 @@ pub fn given_refusal(s: &[u8]) -> u8
     ensures { λ r. ⌜ r ≡ givenIn (now (s .entry)) .refusal ⌝ }
 {
     if s.len() != GIVEN_LENGTH {
-        return 20;
+        return WRONG_LENGTH;
     }
     if !places::are_zero(s, 100, 28) {
-        return 21;
+        return IMPOSSIBLE;
     }
     0
 }

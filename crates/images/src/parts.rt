@@ -39,7 +39,7 @@ use types::weight::Stability;
 use types::weight::Weighing;
 
 // The bytes of a state image.
-pub(crate) const STATE_LENGTH: usize = 288;
+pub const STATE_LENGTH: usize = 288;
 
 // Those of one before request A5.
 pub(crate) const EARLIER_LENGTH: usize = 256;

@@ -13,6 +13,8 @@ use crate::names::stage_timer;
 use crate::parts;
 use crate::parts::EARLIER_LENGTH;
 use crate::parts::STATE_LENGTH;
+use numbers::IMPOSSIBLE;
+use numbers::WRONG_LENGTH;
 use numbers::error_number;
 use numbers::judgement_number;
 use numbers::stage_number;
@@ -88,12 +90,12 @@ pub fn bytes_refusal(s: &[u8]) -> u8
     ensures { λ r. ⌜ r ≡ bytesRefusal (now (s .entry)) ⌝ }
 {
     if s.len() != STATE_LENGTH {
-        return 20;
+        return WRONG_LENGTH;
     }
     if is_written(s) {
         return 0;
     }
-    21
+    IMPOSSIBLE
 }
 
 // The same of an earlier image, which has bytes of 0 in place of those it lacks.
@@ -101,10 +103,10 @@ pub fn earlier_refusal(e: &[u8]) -> u8
     ensures { λ r. ⌜ r ≡ earlierRefusal (now (e .entry)) ⌝ }
 {
     if e.len() != EARLIER_LENGTH {
-        return 20;
+        return WRONG_LENGTH;
     }
     if is_written(e) {
         return 0;
     }
-    21
+    IMPOSSIBLE
 }

@@ -1,12 +1,27 @@
-// The outline's number of each answer, stage and error, and the house's of a judgement.
+// The outline's number of each answer, stage and error, and the house's of a judgement and of a kind of analog value.
 ghost use mathlib.Core.Path.{_≡_};
-ghost use Rattle.outline.specs.Numbers.{refusalNumber, outcomeNumber, toldNumber, stageNumber, errorNumber, judgementNumber};
+ghost use Rattle.outline.specs.Numbers.{refusalNumber, outcomeNumber, toldNumber, stageNumber, errorNumber, judgementNumber, analogNumber};
+use types::analog::Analog;
 use types::lines::LineAnswer;
 use types::requests::Outcome;
 use types::requests::Refusal;
 use types::stages::Judgement;
 use types::stages::SequenceError;
 use types::stages::Stage;
+
+// What a call answers where it runs no tick, or where no line was asked. No enum has these: they come of buffers, images and settings as
+// they are given, and C asks by a number.
+pub const SETTINGS_REFUSED: u8 = 10;
+
+pub const NO_REQUEST: u8 = 13;
+
+pub const SHORT_BUFFER: u8 = 14;
+
+pub const LONG_BLOCK: u8 = 15;
+
+pub const WRONG_LENGTH: u8 = 20;
+
+pub const IMPOSSIBLE: u8 = 21;
 
 pub fn refusal_number(n: Refusal) -> u8
     ensures { λ r. ⌜ r ≡ refusalNumber n ⌝ }
@@ -41,8 +56,8 @@ pub fn told_number(t: LineAnswer) -> u8
         LineAnswer::Refused(n) => refusal_number(n),
         LineAnswer::Malformed => 11,
         LineAnswer::OtherAddress => 12,
-        LineAnswer::Unknown => 13,
-        LineAnswer::ShortBuffer => 14,
+        LineAnswer::Unknown => NO_REQUEST,
+        LineAnswer::ShortBuffer => SHORT_BUFFER,
     }
 }
 
@@ -91,5 +106,16 @@ pub fn judgement_number(j: Judgement) -> u8
         Judgement::Ok => 1,
         Judgement::Over => 2,
         Judgement::Under => 3,
+    }
+}
+
+// So are those of a kind of analog value, the settings' own for the board.
+pub fn analog_number(a: Analog) -> u8
+    ensures { λ r. ⌜ r ≡ analogNumber a ⌝ }
+{
+    match a {
+        Analog::None => 0,
+        Analog::Current(_) => 1,
+        Analog::Voltage(_) => 2,
     }
 }

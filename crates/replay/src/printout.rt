@@ -195,25 +195,57 @@ fn put_next(out: &mut [u8], at: usize, n: u32) -> usize {
     put_number(out, at, n as u64)
 }
 
-fn put_points(out: &mut [u8], at: usize, p: Setpoints) -> usize {
-    let at = put_number(out, at, p.target as u64);
-    let at = put_next(out, at, p.fall);
-    let at = put_next(out, at, p.preliminary);
-    let at = put_next(out, at, p.optional);
-    let at = put_next(out, at, p.over);
-    let at = put_next(out, at, p.under);
-    put_next(out, at, p.near)
+// Number by number: a struct of them would be copied first, from the gap before it on, by reads that wait for the writes of the tick
+// (docs/COST.md).
+fn put_points(
+    out: &mut [u8],
+    at: usize,
+    target: u32,
+    fall: u32,
+    preliminary: u32,
+    optional: u32,
+    over: u32,
+    under: u32,
+    near: u32,
+) -> usize {
+    let at = put_number(out, at, target as u64);
+    let at = put_next(out, at, fall);
+    let at = put_next(out, at, preliminary);
+    let at = put_next(out, at, optional);
+    let at = put_next(out, at, over);
+    let at = put_next(out, at, under);
+    put_next(out, at, near)
 }
 
 // Those in use, then those waiting: a dash where there are none.
 fn put_setpoints(out: &mut [u8], at: usize, p: Setpoints, w: Waiting) -> usize {
     let write = w.write;
     let at = put(out, at, b" setpoints=");
-    let at = put_points(out, at, p);
+    let at = put_points(
+        out,
+        at,
+        p.target,
+        p.fall,
+        p.preliminary,
+        p.optional,
+        p.over,
+        p.under,
+        p.near,
+    );
     let at = put(out, at, b" waiting=");
     match write {
         Write::Nothing => return put_byte(out, at, DASH),
-        Write::Points(n) => return put_points(out, at, n),
+        Write::Points(n) => return put_points(
+            out,
+            at,
+            n.target,
+            n.fall,
+            n.preliminary,
+            n.optional,
+            n.over,
+            n.under,
+            n.near,
+        ),
     }
 }
 

@@ -1,5 +1,9 @@
 -- The line behind, where it is whole; else the line at the start of the bytes then held, with the same number.
-use borrow.Author.Needs.{needs}
+use mathlib.Core.Path.{_∙_}
+use mir.Syntax.{w32}
+use mir.Facts.{toZ-ofZ}
+use borrow.Author.Needs.{needs, sfits-of}
+use mir.Val.{SFits}
 use Rattle.logs.specs.LineLaws.{next-whole, next-read}
 use Rattle.replay.proofs.input.next_line.Statement.{statement}
 use Rattle.replay.proofs.input.next_line.Tie as tie
@@ -11,7 +15,9 @@ same-length : tie.Need-same-length
 same-length c = search needs
 
 returns : tie.Need-returns
-returns c = next-whole _ _ _ (c .before .line-behind .ensures) (c .if1 .taken)
+returns c =
+    let count : SFits w32 (c .before .before .before .line-behind .result .said .count) = search (sfits-of, c .struct-told .given) in
+    (simp (toZ-ofZ count)) ∙ next-whole _ _ _ (c .before .before .before .line-behind .ensures) (c .before .before .if1 .taken)
 
 keep-requires : tie.Need-keep-requires
 keep-requires c κs = search needs
