@@ -264,14 +264,19 @@ def tick_of(live):
     return len(read(live.log).split(b"\n")) - 2
 
 
-def halt(live):
-    """Stops the process, as it is, between two instructions; gives the log's ticks."""
-    live.process.send_signal(signal.SIGSTOP)
+def stand(process):
+    """Stops a process, as it is, between two instructions, until a SIGCONT."""
+    process.send_signal(signal.SIGSTOP)
 
     def stopped():
-        with open(f"/proc/{live.process.pid}/stat", "rb") as file:
+        with open(f"/proc/{process.pid}/stat", "rb") as file:
             return file.read().rpartition(b")")[2].split()[0] == b"T"
     await_that("the stop of the process", stopped)
+
+
+def halt(live):
+    """Stops the controller; gives the log's ticks."""
+    stand(live.process)
     return tick_of(live)
 
 

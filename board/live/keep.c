@@ -18,19 +18,20 @@
 #include <unistd.h>
 
 #define PLANT_END ".plant"
+#define EARLY_END ".new" /* of a file in the default place as long as its run has not begun */
 #define OUTPUTS_FIRST "answer=0\n" /* replay's first line under settings that are taken */
 
 enum {
-    SLOT_NUMBERS = 6,                                            /* before the plant: mark, image, ticks, log, log's sum, outputs */
+    SLOT_NUMBERS = 7,                                            /* before the plant: mark, image, ticks, log and outputs with their sums */
     SLOT_PLACE = 8 * SLOT_NUMBERS,
     SLOT_SUMMED = SLOT_PLACE + PLANT_BYTES,                      /* and behind it its own sum */
     SLOT_BYTES = SLOT_SUMMED + 8,
     SLOTS = 2,
     IMAGE_ROOM = PRESSGULLY_STATE + 1,                           /* so that a file that is too long shows */
-    CHUNK = 65536                                                /* bytes of a log that are summed at once */
+    CHUNK = 65536                                                /* bytes of a file that are summed at once */
 };
 
-static const int64_t slot_mark = 0x50474c4956450001; /* PGLIVE, and the slot's version */
+static const int64_t slot_mark = 0x50474c4956450002; /* PGLIVE, and the slot's version: since 2 it has the outputs' sum */
 
 /* ---- sums: FNV-1a of 64 bits, against files that do not belong together, and not against malice */
 
@@ -49,7 +50,8 @@ static uint64_t sum_on(uint64_t sum, const void *bytes, size_t length)
 /* ---- slots */
 
 struct slot {
-    uint64_t image_sum, ticks, log_length, log_sum, outputs_length;
+    uint64_t image_sum, ticks;
+    struct extent log, outputs;
     struct plant plant;
 };
 
@@ -63,7 +65,8 @@ static struct field slot_field(int n)
 
 static void slot_write(const struct slot *s, uint8_t bytes[SLOT_BYTES])
 {
-    const uint64_t numbers[SLOT_NUMBERS] = {(uint64_t)slot_mark, s->image_sum, s->ticks, s->log_length, s->log_sum, s->outputs_length};
+    const uint64_t numbers[SLOT_NUMBERS] = {(uint64_t)slot_mark, s->image_sum, s->ticks, s->log.length, s->log.sum, s->outputs.length,
+                                            s->outputs.sum};
     int i;
 
     for (i = 0; i < SLOT_NUMBERS; i++)
@@ -76,9 +79,10 @@ static bool slot_read(struct slot *s, const uint8_t bytes[SLOT_BYTES])
 {
     s->image_sum = bits_at(bytes, slot_field(1));
     s->ticks = bits_at(bytes, slot_field(2));
-    s->log_length = bits_at(bytes, slot_field(3));
-    s->log_sum = bits_at(bytes, slot_field(4));
-    s->outputs_length = bits_at(bytes, slot_field(5));
+    s->log.length = bits_at(bytes, slot_field(3));
+    s->log.sum = bits_at(bytes, slot_field(4));
+    s->outputs.length = bits_at(bytes, slot_field(5));
+    s->outputs.sum = bits_at(bytes, slot_field(6));
     return bits_at(bytes, slot_field(0)) == (uint64_t)slot_mark &&
            bits_at(bytes, slot_field(SLOT_SUMMED / 8)) == sum_on(no_sum, bytes, SLOT_SUMMED) && plant_read(&s->plant, bytes + SLOT_PLACE);
 }
@@ -118,19 +122,34 @@ static bool write_whole(int file, const char *bytes, size_t length)
     return true;
 }
 
-static bool add_log(struct keep *k, struct piece text)
+static bool add(int file, struct extent *extent, struct piece text)
 {
-    k->log_length += text.length;
-    k->log_sum = sum_on(k->log_sum, text.bytes, text.length);
-    return write_whole(k->log, text.bytes, text.length);
+    extent->length += text.length;
+    extent->sum = sum_on(extent->sum, text.bytes, text.length);
+    return write_whole(file, text.bytes, text.length);
 }
 
-static bool add_outputs(struct keep *k, struct piece text)
+static bool add_both(struct keep *k, struct piece logged, struct piece outputs)
 {
-    if (k->outputs < 0)
-        return true;
-    k->outputs_length += text.length;
-    return write_whole(k->outputs, text.bytes, text.length);
+    return add(k->log, &k->log_extent, logged) && (k->outputs < 0 || add(k->outputs, &k->outputs_extent, outputs));
+}
+
+/* Whether a file is at least as long as it was, and so far the same. */
+static bool goes_as_far(int file, struct extent kept)
+{
+    struct extent e = {0, no_sum};
+    uint8_t chunk[CHUNK];
+
+    while (e.length < kept.length) {
+        const uint64_t left = kept.length - e.length;
+        const ssize_t came = pread(file, chunk, left < CHUNK ? (size_t)left : CHUNK, (off_t)e.length);
+
+        if (came <= 0)
+            return false;
+        e.length += (uint64_t)came;
+        e.sum = sum_on(e.sum, chunk, (size_t)came);
+    }
+    return e.sum == kept.sum;
 }
 
 /* The slot first: as long as the image is the older one, the other slot is still its own. */
@@ -141,9 +160,8 @@ static bool commit(const struct keep *k, const uint8_t *state, const struct plan
 
     s.image_sum = sum_on(no_sum, state, PRESSGULLY_STATE);
     s.ticks = k->ticks;
-    s.log_length = k->log_length;
-    s.log_sum = k->log_sum;
-    s.outputs_length = k->outputs_length;
+    s.log = k->log_extent;
+    s.outputs = k->outputs_extent;
     s.plant = *p;
     slot_write(&s, bytes);
     return pwrite(k->plant, bytes, SLOT_BYTES, (off_t)(k->ticks % SLOTS) * SLOT_BYTES) == SLOT_BYTES &&
@@ -153,7 +171,7 @@ static bool commit(const struct keep *k, const uint8_t *state, const struct plan
 bool keep_tick(struct keep *k, struct piece logged, struct piece outputs, const uint8_t *state, const struct plant *p)
 {
     k->ticks++;
-    if (add_log(k, logged) && add_outputs(k, outputs) && commit(k, state, p))
+    if (add_both(k, logged, outputs) && commit(k, state, p))
         return true;
     complain("log and state can't be kept any more: %s", strerror(errno));
     return false;
@@ -192,6 +210,17 @@ bool keep_settings(const char *path, uint8_t *settings)
 
 /* ---- a new run */
 
+/* A file of a new run. One that the user has named is made as it is called. One in the default place is made under an early name and gets
+ * its own when all else is done, since a run before may stand there. */
+struct new_file {
+    const char *path;
+    int *file;  /* -1 until it is made */
+    bool named; /* by the user */
+    bool there; /* a run before has it, in the default place */
+};
+
+enum { NEW_FILES = 4 };
+
 static bool exists(const char *path)
 {
     struct stat s;
@@ -199,19 +228,34 @@ static bool exists(const char *path)
     return lstat(path, &s) == 0;
 }
 
-/* A file of an earlier run: one that the user has named is in the way, one in the default place only while a program works on it. */
-static bool is_free(const char *path, bool named)
+static bool is_folder(const char *path)
 {
-    int file;
+    struct stat s;
+
+    return lstat(path, &s) == 0 && S_ISDIR(s.st_mode);
+}
+
+static void early_path(char early[PATH_ROOM], const struct new_file *f)
+{
+    snprintf(early, PATH_ROOM, "%s" EARLY_END, f->path);
+}
+
+/* target/live/hopper.log becomes target/live/hopper-old.log. */
+static void aside_path(char aside[PATH_ROOM], const struct new_file *f)
+{
+    const char *name = strrchr(f->path, '/'), *dot;
+
+    name = name == NULL ? f->path : name + 1;
+    dot = strchr(name, '.');
+    snprintf(aside, PATH_ROOM, "%.*s-old%s", (int)(dot - f->path), f->path, dot);
+}
+
+/* No program is at work on it, if it is there at all. */
+static bool is_idle(const char *path)
+{
+    const int file = open(path, O_RDONLY | O_CLOEXEC);
     bool ok;
 
-    if (!exists(path))
-        return true;
-    if (named) {
-        complain("%s is there already; --resume goes on with it, another name leaves it alone", path);
-        return false;
-    }
-    file = open(path, O_RDONLY);
     if (file < 0)
         return true;
     ok = lock(file, path);
@@ -219,20 +263,31 @@ static bool is_free(const char *path, bool named)
     return ok;
 }
 
-/* target/live/hopper.log becomes target/live/hopper-old.log. */
-static bool move_aside(const char *path)
+/* A file of an earlier run: one that the user has named is in the way, one in the default place only while a program works on it. */
+static bool is_free(struct new_file *f)
 {
-    const char *name = strrchr(path, '/'), *dot;
+    const bool there = exists(f->path);
+
+    if (there && f->named) {
+        complain("%s is there already; --resume goes on with it, another name leaves it alone", f->path);
+        return false;
+    }
+    f->there = there;
+    return is_idle(f->path);
+}
+
+/* What stands aside would be lost, so nobody may be at work on it: a run that was resumed there, or a file that this start has made. A
+ * folder in the way is found here too, and not when half of the files have been moved. */
+static bool can_move(const struct new_file *f)
+{
     char aside[PATH_ROOM];
 
-    if (!exists(path))
+    if (f->named || !f->there)
         return true;
-    name = name == NULL ? path : name + 1;
-    dot = strchr(name, '.');
-    snprintf(aside, sizeof aside, "%.*s-old%s", (int)(dot - path), path, dot);
-    if (rename(path, aside) == 0)
-        return true;
-    complain("%s can't be moved aside: %s", path, strerror(errno));
+    aside_path(aside, f);
+    if (!is_folder(f->path) && !is_folder(aside))
+        return is_idle(aside);
+    complain("%s can't be moved to %s: there is a folder", f->path, aside);
     return false;
 }
 
@@ -252,49 +307,118 @@ static bool make_folders(const char *home)
     return true;
 }
 
-static int create(const char *path)
+static bool make(const struct new_file *f)
 {
-    const int file = open(path, O_RDWR | O_CREAT | O_EXCL | O_CLOEXEC, 0666);
+    char early[PATH_ROOM];
 
-    if (file < 0)
-        complain("%s can't be made: %s", path, strerror(errno));
-    return file;
+    early_path(early, f);
+    if (!f->named && !is_idle(early))
+        return false;
+    if (!f->named)
+        unlink(early); /* a cut in a beginning has left it, if it is there */
+    if (f->named || f->there || !exists(f->path))
+        *f->file = open(f->named ? f->path : early, O_RDWR | O_CREAT | O_EXCL | O_CLOEXEC, 0666);
+    else
+        errno = EEXIST; /* the user has given another file of this run the name */
+    if (*f->file >= 0)
+        return lock(*f->file, f->path);
+    complain("%s can't be made: %s", f->path, strerror(errno));
+    return false;
 }
 
-static bool begin_files(struct keep *k, const struct options *o)
+/* Named files first: they are where a beginning is likely to fail. */
+static bool make_all(struct new_file *files, int count, const char *home)
 {
-    char plant[PATH_ROOM];
+    bool all_named = true;
+    int i;
 
-    plant_path(plant, o->state);
-    if (!is_free(o->log, o->log_given) || !is_free(o->state, o->state_given) || !is_free(plant, o->state_given) ||
-        (o->outputs != NULL && !is_free(o->outputs, true)))
+    for (i = 0; i < count; i++) {
+        if (!is_free(&files[i]))
+            return false;
+        all_named = all_named && files[i].named;
+    }
+    for (i = 0; i < count; i++)
+        if (files[i].named && !make(&files[i]))
+            return false;
+    for (i = 0; i < count; i++)
+        if (!can_move(&files[i]))
+            return false;
+    if (!all_named && !make_folders(home))
         return false;
-    if ((!o->log_given || !o->state_given) && !make_folders(o->home))
-        return false;
-    if ((!o->log_given && !move_aside(o->log)) || (!o->state_given && (!move_aside(o->state) || !move_aside(plant))))
-        return false;
-    return (k->log = create(o->log)) >= 0 && lock(k->log, o->log) && (k->state = create(o->state)) >= 0 && lock(k->state, o->state) &&
-           (k->plant = create(plant)) >= 0 && (o->outputs == NULL || (k->outputs = create(o->outputs)) >= 0);
+    for (i = 0; i < count; i++)
+        if (!files[i].named && !make(&files[i]))
+            return false;
+    return true;
 }
 
-bool keep_begin(struct keep *k, const struct options *o, const struct images *m, const struct plant *p)
+/* The run before is moved aside, and the new one has its names. */
+static bool name_all(const struct new_file *files, int count)
 {
-    const struct piece first = {OUTPUTS_FIRST, strlen(OUTPUTS_FIRST)};
+    char early[PATH_ROOM], aside[PATH_ROOM];
+    int i;
+
+    for (i = 0; i < count; i++) {
+        if (files[i].named)
+            continue;
+        early_path(early, &files[i]);
+        aside_path(aside, &files[i]);
+        if ((files[i].there && rename(files[i].path, aside) != 0) || rename(early, files[i].path) != 0) {
+            complain("the new %s can't be put in its place: %s", files[i].path, strerror(errno));
+            return false;
+        }
+    }
+    return true;
+}
+
+static void remove_made(const struct new_file *files, int count)
+{
+    char early[PATH_ROOM];
+    int i;
+
+    for (i = 0; i < count; i++)
+        if (*files[i].file >= 0) {
+            early_path(early, &files[i]);
+            unlink(files[i].named ? files[i].path : early);
+        }
+}
+
+/* What a run has before its first tick. */
+static bool write_first(struct keep *k, const struct images *m, const struct plant *p)
+{
+    const struct piece outputs = {OUTPUTS_FIRST, strlen(OUTPUTS_FIRST)};
     char text[LINE_ROOM];
     struct piece settings = {text, 0};
     int i;
 
-    memset(k, 0, sizeof *k);
-    k->outputs = -1;
-    k->log_sum = no_sum;
-    if (!begin_files(k, o))
-        return false;
     for (i = 0; i < SETTINGS; i++)
         settings.length += (size_t)snprintf(text + settings.length, sizeof text - settings.length, "%" PRId64 "%c",
                                             setting(m->settings, (enum setting)i), i + 1 < SETTINGS ? ' ' : '\n');
-    if (add_log(k, settings) && add_outputs(k, first) && commit(k, m->state, p))
+    if (add_both(k, settings, outputs) && commit(k, m->state, p))
         return true;
     complain("log and state can't be kept: %s", strerror(errno));
+    return false;
+}
+
+/* Nothing is open, and nothing is kept. */
+static void keep_nothing(struct keep *k)
+{
+    memset(k, 0, sizeof *k);
+    k->log = k->state = k->plant = k->outputs = -1;
+    k->log_extent.sum = k->outputs_extent.sum = no_sum;
+}
+
+bool keep_begin(struct keep *k, const struct options *o, const struct images *m, const struct plant *p)
+{
+    char plant[PATH_ROOM];
+    struct new_file files[NEW_FILES] = {{o->log, &k->log, o->log_given, false}, {o->state, &k->state, o->state_given, false},
+                                        {plant, &k->plant, o->state_given, false}, {o->outputs, &k->outputs, true, false}};
+    const int count = o->outputs == NULL ? NEW_FILES - 1 : NEW_FILES;
+
+    plant_path(plant, o->state);
+    keep_nothing(k);
+    if (make_all(files, count, o->home) && write_first(k, m, p) && name_all(files, count))
+        return true;
+    remove_made(files, count);
     return false;
 }
 
@@ -342,7 +466,10 @@ static bool resume_image(const struct keep *k, const struct options *o, struct i
     }
     if (told == 0)
         return true;
-    complain("the state %s is refused, %" PRIu32 ": %s", o->state, told, refusal_words(told));
+    if (told == 10) /* of the settings that came with it */
+        complain("the settings of the log %s are refused, 10: %s", o->log, refusal_words(told));
+    else
+        complain("the state %s is refused, %" PRIu32 ": %s", o->state, told, refusal_words(told));
     return false;
 }
 
@@ -365,62 +492,51 @@ static bool resume_plant(struct keep *k, const struct options *o, const struct i
     return true;
 }
 
-/* The log is at least as long as it was, and so far the same. */
 static bool resume_log(struct keep *k, const struct options *o, const struct slot *s)
 {
-    uint8_t chunk[CHUNK];
-
-    k->log_sum = no_sum;
-    for (k->log_length = 0; k->log_length < s->log_length;) {
-        const uint64_t left = s->log_length - k->log_length;
-        const ssize_t came = pread(k->log, chunk, left < CHUNK ? (size_t)left : CHUNK, (off_t)k->log_length);
-
-        if (came <= 0)
-            break;
-        k->log_sum = sum_on(k->log_sum, chunk, (size_t)came);
-        k->log_length += (uint64_t)came;
-    }
-    if (k->log_length == s->log_length && k->log_sum == s->log_sum)
+    k->log_extent = s->log;
+    if (goes_as_far(k->log, s->log))
         return true;
     complain("the log %s is not the one that was kept with the state %s", o->log, o->state);
     return false;
 }
 
+/* Ticks that were run without outputs are missing in them for good. */
 static bool resume_outputs(struct keep *k, const struct options *o, const struct slot *s)
 {
-    struct stat now;
-
     if (o->outputs == NULL)
         return true;
-    k->outputs_length = s->outputs_length;
-    k->outputs = s->outputs_length == 0 ? create(o->outputs) : open_kept(o->outputs, "outputs");
-    if (k->outputs < 0)
+    if (s->outputs.length == 0) {
+        complain("outputs are kept from a run's beginning or not at all; replay makes them from the log %s", o->log);
         return false;
-    if (fstat(k->outputs, &now) == 0 && (uint64_t)now.st_size >= s->outputs_length)
+    }
+    if ((k->outputs = open_kept(o->outputs, "outputs")) < 0 || !lock(k->outputs, o->outputs))
+        return false;
+    k->outputs_extent = s->outputs;
+    if (goes_as_far(k->outputs, s->outputs))
         return true;
-    complain("the outputs %s are shorter than those of the run before", o->outputs);
+    complain("the outputs %s are not those that were kept with the state %s", o->outputs, o->state);
     return false;
 }
 
-static bool cut(int file, uint64_t length)
+static bool cut(int file, struct extent kept)
 {
-    return ftruncate(file, (off_t)length) == 0 && lseek(file, 0, SEEK_END) == (off_t)length;
+    return ftruncate(file, (off_t)kept.length) == 0 && lseek(file, 0, SEEK_END) == (off_t)kept.length;
 }
 
 bool keep_resume(struct keep *k, const struct options *o, struct images *m, struct plant *p)
 {
     struct slot s;
 
-    memset(k, 0, sizeof *k);
-    k->outputs = -1;
+    keep_nothing(k);
     if ((k->log = open_kept(o->log, "log")) < 0 || !lock(k->log, o->log) || (k->state = open_kept(o->state, "state")) < 0 ||
         !lock(k->state, o->state) || !resume_settings(o, m->settings) || !resume_image(k, o, m) || !resume_plant(k, o, m, &s) ||
         !resume_log(k, o, &s) || !resume_outputs(k, o, &s))
         return false;
     k->ticks = s.ticks;
     *p = s.plant;
-    if (cut(k->log, k->log_length) && (k->outputs < 0 || cut(k->outputs, k->outputs_length)))
+    if (cut(k->log, k->log_extent) && (k->outputs < 0 || cut(k->outputs, k->outputs_extent)))
         return true;
-    complain("the log can't be cut to its kept length: %s", strerror(errno));
+    complain("log and outputs can't be cut to their kept lengths: %s", strerror(errno));
     return false;
 }

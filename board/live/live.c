@@ -29,7 +29,8 @@
 enum {
     TICK = 10000000,    /* ns of a tick at speed 1 */
     BEHIND = 250000000, /* ns: a lag up to here is made up for, a longer one is given up, and the ticks go on from now */
-    LOGGED_ROOM = COMMAND_LIMIT + 32
+    LOGGED_ROOM = COMMAND_LIMIT + 32,
+    AGAIN_ROOM = 4 * PATH_ROOM + 256 /* the words for going on: four paths at most */
 };
 
 struct live {
@@ -232,18 +233,27 @@ static void tell_beginning(const struct live *l)
     say("Ctrl-C ends it.");
 }
 
-/* With the words that it needs again. */
+/* With the words that it needs again. The seed and the settings are not among them: plant and log have them. */
 static void tell_end(const struct live *l)
 {
     const struct options *o = &l->options;
-    char speed[32] = "";
+    char speed[16], baud[16], words[AGAIN_ROOM] = "";
+    const struct {
+        const char *name, *word; /* NULL: not needed */
+    } again[] = {
+        {"--plant", l->plant.kind == PLANT_TANK ? "tank" : NULL}, {"--log", o->log_given ? o->log : NULL},
+        {"--state", o->state_given ? o->state : NULL}, {"--outputs", o->outputs}, {"--line", o->line},
+        {"--speed", o->speed != 1 ? speed : NULL}, {"--baud", o->baud != BAUD_DEFAULT ? baud : NULL},
+    };
+    size_t i, length = 0;
 
-    if (o->speed != 1)
-        snprintf(speed, sizeof speed, " --speed %" PRIu32, o->speed);
+    snprintf(speed, sizeof speed, "%" PRIu32, o->speed);
+    snprintf(baud, sizeof baud, "%" PRIu32, o->baud);
+    for (i = 0; i < sizeof again / sizeof again[0]; i++)
+        if (again[i].word != NULL && length < sizeof words)
+            length += (size_t)snprintf(words + length, sizeof words - length, " %s %s", again[i].name, again[i].word);
     say("Ended after %" PRIu64 " ticks. The state stands in %s.", l->keep.ticks, o->state);
-    say("To go on: ./pressgully live --resume%s%s%s%s%s%s%s%s", l->plant.kind == PLANT_TANK ? " --plant tank" : "",
-        o->log_given ? " --log " : "", o->log_given ? o->log : "", o->state_given ? " --state " : "", o->state_given ? o->state : "",
-        o->outputs != NULL ? " --outputs " : "", o->outputs != NULL ? o->outputs : "", speed);
+    say("To go on: ./pressgully live --resume%s", words);
 }
 
 int main(int argc, char **argv)

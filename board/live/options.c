@@ -131,7 +131,7 @@ bool take_options(struct options *o, int count, char **words)
     o->home = ".";
     o->plant = PLANT_HOPPER;
     o->speed = 1;
-    o->baud = 9600;
+    o->baud = BAUD_DEFAULT;
     o->seed = 1;
     for (i = 1; i < count; i++) {
         if (strcmp(words[i], "--resume") == 0)

@@ -12,7 +12,8 @@ import subprocess
 import sys
 import time
 
-from desk import END, LIMIT, ROOT, Judge, Live, await_that, go_on, halt, pairs, read, replay, requests, settings, start, tick_of, write
+from desk import (END, LIMIT, ROOT, Judge, Live, await_that, go_on, halt, pairs, read, replay, requests, settings, stand, start, tick_of,
+                  write)
 
 PROGRAM = sys.argv[1]
 FOLDER = sys.argv[2]
@@ -325,7 +326,7 @@ def cuts(judge):
     judge.same("BB in the batch that goes on", live.ask(b"BB"), NG[3])
     live.settled()
     judge.same("SIGINT in the batch", live.stop(), 0)
-    again = f"--resume --log {live.log} --state {live.state} --outputs {live.outputs} --speed 2\n".encode()
+    again = f"--resume --log {live.log} --state {live.state} --outputs {live.outputs} --line {live.line} --speed 2 --baud 0\n".encode()
     judge.that("the last line says how to go on", read(live.said).endswith(again), read(live.said)[-300:])
     at = tick_of(live)
     live.go("--speed", "200").open()
@@ -378,6 +379,110 @@ def between_writes(judge):
         uncut = run(f"uncut-{name}", 406)
         judge.same(f"between writes, {name}: the same without a cut", uncut.ended(), 0)
         judge.that(f"between writes, {name}: another log than without a cut", read(kept.log) == read(uncut.log))
+
+
+def kept_outputs(judge):
+    """Outputs are kept from a run's beginning or not at all, and go on in the file that they are in and in no other."""
+    def told(name, live, say, outputs):
+        before = {file: read(f"{live.folder}/{file}") for file in os.listdir(live.folder)}
+        done = subprocess.run([PROGRAM, "--home", ROOT, "--log", live.log, "--state", live.state, "--resume", "--ticks", "5",
+                               "--outputs", outputs], capture_output=True, timeout=LIMIT)
+        judge.that(f"told: {name}", done.returncode == 1 and done.stdout == b"" and done.stderr.count(b"\n") == 1 and say in done.stderr,
+                   (done.returncode, done.stdout, done.stderr))
+        judge.that(f"{name}: a file has changed", before == {file: read(f"{live.folder}/{file}") for file in os.listdir(live.folder)})
+
+    def without(live, *words):
+        return subprocess.run([PROGRAM, "--home", ROOT, "--log", live.log, "--state", live.state, "--speed", "1000", "--quiet", *words],
+                              stdout=subprocess.DEVNULL, timeout=LIMIT).returncode
+
+    live = Live(PROGRAM, f"{FOLDER}/outputs", "--speed", "1000", "--quiet").go("--ticks", "50")
+    judge.same("a run with outputs", live.ended(), 0)
+    write(f"{live.folder}/letter", b"Dear reader, " * 10000)
+    told("another file as outputs", live, b"are not those", f"{live.folder}/letter")
+    told("the log as outputs", live, b"at work", live.log)
+    shutil.copy(live.outputs, f"{live.folder}/copy")
+    with open(f"{live.folder}/copy", "r+b") as copy:
+        copy.seek(100)
+        copy.write(b"#")
+    told("outputs with a byte changed", live, b"are not those", f"{live.folder}/copy")
+    told("outputs of a name where none are", live, b"no outputs", f"{live.folder}/none")
+    shutil.copytree(live.folder, f"{FOLDER}/outputs-copied")  # a run that was copied away must not go on in this one's outputs
+    judge.same("going on at leisure", live.go("--resume", "--speed", "1").process.poll(), None)
+    await_that("its first tick", lambda: tick_of(live) > 50)
+    halt(live)
+    told("outputs that a program is at work on", Live(PROGRAM, f"{FOLDER}/outputs-copied"), b"at work", live.outputs)
+    go_on(live)
+    judge.same("SIGINT", live.stop(), 0)
+    live.judge_whole(judge, "outputs")
+
+    # a resume without them ends them; the file stays as it was
+    kept = read(live.outputs)
+    judge.same("going on without outputs", (without(live, "--resume", "--ticks", "5"), read(live.outputs)), (0, kept))
+    told("outputs after ticks without them", live, b"replay makes them from the log", live.outputs)
+    judge.same("going on without outputs again", without(live, "--resume", "--ticks", "5"), 0)
+    told("outputs that were ended", live, b"replay makes them from the log", f"{live.folder}/anew")
+
+    # a run that never had any
+    bare = Live(PROGRAM, f"{FOLDER}/bare")
+    judge.same("a run without outputs", without(bare, "--ticks", "20"), 0)
+    told("outputs first asked for at a resume", bare, b"replay makes them from the log", bare.outputs)
+    judge.same("it goes on without them", without(bare, "--resume", "--ticks", "5"), 0)
+
+
+def booked(judge):
+    """A batch is told although CA or DT of its finishing tick has taken the one before away: the count does not rise then. One that HB
+    stops in that tick is not."""
+    live = Live(PROGRAM, f"{FOLDER}/booked", "--baud", "0").go("--speed", "200").open()
+    files = (live.log, live.state, live.state + ".plant", live.outputs)
+
+    def run_to(tick):
+        if live.go("--resume", "--speed", "1000", "--quiet", "--ticks", str(tick - tick_of(live))).ended() != 0:
+            raise ValueError(f"no run to tick {tick}: {read(live.wrong)!r}")
+
+    def keep():
+        return [read(file) for file in files]
+
+    def put_back(kept):
+        for file, data in zip(files, kept):
+            write(file, data)
+
+    for number in (b"00000001", b"00000002"):  # to the end of one batch, and a second one's beginning on top of it
+        await_that("an accepted tare", lambda: live.ask(b"MT") == b"MT")
+        if live.ask(b"SS" + points(200, 8, 40, 100, 9, 9, 20)) != b"SS" or live.ask(b"BB") != b"BB":
+            raise ValueError("no batch has begun")
+        if number == b"00000001":
+            await_that("a booked batch", lambda: live.ask(b"RT")[9:] == number)
+    judge.same("SIGINT in the second batch", live.stop(), 0)
+
+    # the plant goes its way whatever is asked for: a run without a request shows the tick in which the batch finishes
+    kept = keep()
+    run_to(tick_of(live) + 12000)
+    finish = next(tick for tick, row in enumerate(live.rows(), 1) if pairs(row)["batches"] == "2")
+    weight, total = (pairs(live.rows()[finish - 1])[key] for key in ("net", "total"))
+    put_back(kept)
+    run_to(finish - 50)
+    kept = keep()
+    alone, both = ("1", weight, "ok", weight), ("2", weight, "ok", total)
+    for command, due in ((b"CA", [alone]), (b"DT", [alone]), (b"RT", [both]), (b"HB", [])):
+        for _ in range(20):  # it may be halted between looking at the line and writing its log, or too late
+            put_back(kept)
+            said = len(read(live.said))
+            live.go("--resume", "--speed", "2").open()
+            await_that("its first tick", lambda: tick_of(live) > finish - 50)
+            before = finish - halt(live) - 1
+            if before >= 0:
+                live.send(b"RS\r\n" * before + command + END)
+                time.sleep(0.1)  # the system brings them to the other side
+            go_on(live)
+            await_that("the finish", lambda: tick_of(live) > finish + 2)
+            live.stop()
+            if (command, finish) in requests(live.log):
+                break
+        row = pairs(live.rows()[finish - 1])
+        judge.same(f"{command.decode()} in the finishing tick", [(command, finish) in requests(live.log), row["answer"], row["batches"]],
+                   [True, "0", "2" if command == b"RT" else "1"])
+        judge.same(f"a line for the batch that finishes with {command.decode()}",
+                   re.findall(r" batch (\d+) booked: (\d+) kg, (\w+); total (\d+) kg\n", read(live.said)[said:].decode()), due)
 
 
 def every_write(judge):
@@ -479,8 +584,10 @@ def refused_images(judge):
     refused("a log cut short", b"not the one", log=kept["log"][:-20])
     refused("a log that was changed", b"not the one", log=kept["log"].replace(b"20100 0 --\n", b"20101 0 --\n", 1))
     refused("a log of no settings", b"not the settings", log=kept["log"].replace(b" ", b"  ", 1))
-    refused("a log of settings outside the table", b"refused, 10: ", log=kept["log"].replace(b" 1000 1000 1 2 ", b" 1000 1000 3 2 ", 1))
-    refused("outputs cut short", b"shorter", outputs=kept["outputs"][:-20])
+    refused("a log of settings outside the table", f"the settings of the log {live.log} are refused, 10: ".encode(),
+            log=kept["log"].replace(b" 1000 1000 1 2 ", b" 1000 1000 3 2 ", 1))
+    refused("outputs cut short", b"are not those", outputs=kept["outputs"][:-20])
+    refused("outputs of another", b"are not those", outputs=read(other.outputs) * 2)
     write(f"{live.folder}/others", settings("batch", _17=5999))
     refused("settings of other numbers", b"are not those of the log", "--settings", f"{live.folder}/others")
     refused("another plant", b"is a hopper", "--plant", "tank")
@@ -613,7 +720,7 @@ def clock(judge):
 
 
 def seeds(judge):
-    """A seed is a run; any settings of the table have a plant whose counts are good."""
+    """The same seed gives the same run; any settings of the table have a plant whose counts are good."""
     def log(folder, *words):
         live = Live(PROGRAM, f"{FOLDER}/{folder}", "--speed", "1000", "--quiet", *words).go("--ticks", "3000")
         judge.same(f"3,000 ticks, {folder}", live.ended(), 0)
@@ -694,9 +801,94 @@ def files(judge):
     at_work.send_signal(signal.SIGINT)
     judge.same("SIGINT", at_work.wait(LIMIT), 0)
 
+    # a link to a pseudo-terminal is replaced, though a program is still at work there; that one then leaves the new link alone
+    older = Live(PROGRAM, f"{FOLDER}/older").go()
+    await_that("the older one's link", lambda: os.path.exists(older.line))
+    was = os.readlink(older.line)
+    newer = Live(PROGRAM, f"{FOLDER}/newer", "--line", older.line).go()
+    await_that("the newer one's link", lambda: os.readlink(older.line) != was)
+    judge.same("SIGINT of the older", (older.stop(), os.path.exists(older.line)), (0, True))
+    judge.same("SIGINT of the newer", (newer.stop(), os.path.lexists(older.line)), (0, False))
 
-CASES = (conversation, pieces, plain, traffic, addressed, cuts, many_cuts, between_writes, every_write, kept_first, refused_images, loss,
-         tank, baud, unread, clock, seeds, files)
+
+def beginnings(judge):
+    """A beginning that fails has changed no file, wherever it fails."""
+    def everything(folder):
+        found = {}
+        for path, folders, names in os.walk(folder):
+            found.update({f"{path}/{name}": None for name in folders})
+            found.update({f"{path}/{name}": read(f"{path}/{name}") for name in names})
+        return found
+
+    def made(name):
+        home = f"{FOLDER}/{name}"
+        os.makedirs(f"{home}/examples")
+        shutil.copy(f"{ROOT}/examples/batch.settings", f"{home}/examples")
+        return home
+
+    def run(home, *words):
+        return subprocess.run([PROGRAM, "--home", home, "--speed", "1000", "--ticks", "5", *words], capture_output=True, timeout=LIMIT)
+
+    def fails(name, home, say, *words):
+        before = everything(home)
+        done = run(home, *words)
+        judge.that(f"fails: {name}", done.returncode == 1 and done.stdout == b"" and done.stderr.count(b"\n") == 1 and say in done.stderr,
+                   (done.returncode, done.stdout, done.stderr))
+        after = everything(home)
+        judge.that(f"fails: {name}: a file has changed", before == after,
+                   [path for path in sorted(before.keys() | after.keys()) if before.get(path, 0) != after.get(path, 0)])
+
+    fresh, used, blocked = made("fresh"), made("used"), made("blocked")
+    write(f"{blocked}/target", b"a file where the folder would be")
+    place = f"{used}/target/live"
+    for number in (1, 2):
+        judge.same(f"run {number} in the default place", run(used, "--seed", str(number)).returncode, 0)
+    runs = everything(place)
+    judge.same("their files", sorted(os.path.basename(path) for path in runs),
+               sorted(f"hopper{old}.{end}" for old in ("", "-old") for end in ("log", "state", "state.plant")))
+    for home in (fresh, used):
+        fails("outputs in no folder", home, b"can't be made", "--outputs", f"{home}/nowhere/x")
+        fails("a state in no folder", home, b"can't be made", "--state", f"{home}/nowhere/x")
+        fails("a log, and a state in no folder", home, b"can't be made", "--log", f"{home}/log", "--state", f"{home}/nowhere/x")
+        fails("one name for two", home, b"can't be made", "--log", f"{home}/x", "--outputs", f"{home}/x")
+        fails("a log with the name of its plant", home, b"can't be made", "--log", f"{home}/x.plant", "--state", f"{home}/x")
+    fails("no default place, but outputs", blocked, b"can't be made", "--outputs", f"{blocked}/outputs")
+    os.unlink(f"{place}/hopper.state.plant")
+    fails("a log where the plant would be", used, b"can't be made", "--log", f"{place}/hopper.state.plant")
+    write(f"{place}/hopper.state.plant", runs[f"{place}/hopper.state.plant"])
+    os.makedirs(f"{place}/hopper.state.plant.new")
+    fails("a plant that can't be made", used, b"can't be made")
+    os.rmdir(f"{place}/hopper.state.plant.new")
+    os.unlink(f"{place}/hopper-old.state")
+    fails("outputs where the state would be moved", used, b"at work", "--outputs", f"{place}/hopper-old.state")
+    for name in ("hopper-old.state", "hopper.state"):
+        if os.path.exists(f"{place}/{name}"):
+            os.unlink(f"{place}/{name}")
+        os.makedirs(f"{place}/{name}")
+        fails(f"a folder {name}", used, b"there is a folder", "--outputs", f"{used}/outputs")
+        os.rmdir(f"{place}/{name}")
+        write(f"{place}/{name}", runs[f"{place}/{name}"])
+
+    # a run that was moved aside and resumed there is not moved over
+    older = ("--log", f"{place}/hopper-old.log", "--state", f"{place}/hopper-old.state")
+    with open(f"{FOLDER}/older-said", "wb") as said:
+        at_work = start([PROGRAM, "--home", used, "--resume", *older], stdout=said)
+    await_that("its first lines", lambda: b"Ctrl-C" in read(f"{FOLDER}/older-said"))
+    stand(at_work)
+    fails("an older run at work", used, b"at work")
+    fails("an older state at work, and a log by name", used, b"at work", "--log", f"{used}/log")
+    at_work.send_signal(signal.SIGCONT)
+    at_work.send_signal(signal.SIGINT)
+    judge.same("SIGINT", at_work.wait(LIMIT), 0)
+    # what a cut in a beginning has left there does not hinder the next
+    write(f"{place}/hopper.log.new", b"half")
+    newest = read(f"{place}/hopper.log")
+    judge.same("a beginning after a cut one", (run(used).returncode, read(f"{place}/hopper-old.log"), len(os.listdir(place))),
+               (0, newest, 6))
+
+
+CASES = (conversation, pieces, plain, traffic, addressed, cuts, many_cuts, between_writes, kept_outputs, booked, every_write, kept_first,
+         refused_images, loss, tank, baud, unread, clock, seeds, files, beginnings)
 
 
 def main():

@@ -13,9 +13,11 @@
 #include <unistd.h>
 
 enum {
-    SAY_ROOM = 16384, /* bytes of a line: three paths and some words */
+    SAY_ROOM = 20480, /* bytes of a line: four paths and some words */
     SHOWN_BYTES = 48, /* of a refused line */
-    TICKS_A_SECOND = 100
+    TICKS_A_SECOND = 100,
+    AT_REST = 0,      /* stages */
+    JUDGING = 11
 };
 
 static const char *const stages[] = {
@@ -82,8 +84,6 @@ struct told told_of(const uint8_t *state)
     struct told told;
 
     told.stage = state_number(state, STATE_STAGE);
-    told.batches = state_number(state, STATE_BATCHES);
-    told.total = state_number(state, STATE_TOTAL);
     told.contact = state_number(state, STATE_CONTACT) != 0;
     return told;
 }
@@ -115,8 +115,7 @@ static void readable(char shown[SHOWN_BYTES + 1], const uint8_t *line, size_t le
 void tell_tick(struct told *told, uint64_t tick, bool contact, const uint8_t *answer, const uint8_t *state, const uint8_t *line,
                size_t length)
 {
-    const struct told now = {answer_number(answer, ANSWER_STAGE), state_number(state, STATE_BATCHES), state_number(state, STATE_TOTAL),
-                             contact};
+    const struct told now = {answer_number(answer, ANSWER_STAGE), contact};
     const uint32_t number = (uint32_t)answer_number(answer, ANSWER_TOLD);
     const int64_t gross = answer_number(answer, ANSWER_GROSS), error = answer_number(answer, ANSWER_ERROR);
     char at[32], gates[5], shown[SHOWN_BYTES + 1];
@@ -131,12 +130,13 @@ void tell_tick(struct told *told, uint64_t tick, bool contact, const uint8_t *an
     if (now.stage != told->stage) {
         gates_word(gates, answer);
         say("%s stage %02" PRId64 " %s%s%s, gates %s, gross %" PRId64 " kg", at, now.stage,
-            words_of(stages, sizeof stages / sizeof stages[0], (uint64_t)now.stage), now.stage == 0 && error != 0 ? ", error: " : "",
-            now.stage == 0 && error != 0 ? words_of(errors, sizeof errors / sizeof errors[0], (uint64_t)error) : "", gates, gross);
+            words_of(stages, sizeof stages / sizeof stages[0], (uint64_t)now.stage), now.stage == AT_REST && error != 0 ? ", error: " : "",
+            now.stage == AT_REST && error != 0 ? words_of(errors, sizeof errors / sizeof errors[0], (uint64_t)error) : "", gates, gross);
     }
-    if (now.batches > told->batches)
-        say("%s batch %" PRId64 " booked: %" PRId64 " kg, %s; total %" PRId64 " kg", at, now.batches, now.total - told->total,
-            judgement_word(answer), now.total);
+    /* not by the count, which CA or DT of the same tick has lowered before */
+    if (told->stage == JUDGING && now.stage == AT_REST && error == 0)
+        say("%s batch %" PRId64 " booked: %" PRId64 " kg, %s; total %" PRId64 " kg", at, state_number(state, STATE_BATCHES),
+            state_number(state, STATE_UNDO_WEIGHT), judgement_word(answer), state_number(state, STATE_TOTAL));
     if (answer_number(answer, ANSWER_DAY_CLOSED) != 0)
         say("%s day closed, in divisions: opening %s, refilled %s, used %s, unbooked %s, closing %s", at,
             tenths(answer_number(answer, ANSWER_OPENING)).text, tenths(answer_number(answer, ANSWER_REFILLED)).text,

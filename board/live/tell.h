@@ -24,7 +24,7 @@ const char *refusal_words(uint32_t number);
 
 /* What was told last, to tell a change by. */
 struct told {
-    int64_t stage, batches, total;
+    int64_t stage;
     bool contact;
 };
 

@@ -30,7 +30,8 @@ static bool make_raw(int terminal)
     return tcsetattr(terminal, TCSANOW, &t) == 0;
 }
 
-/* Where a link points to one of the system's pseudo-terminals it is one of ours that a power cut left. */
+/* A link to one of the system's pseudo-terminals: most likely one of ours that a power cut left, so it may be replaced. Another program may
+ * still be at work on that terminal, or have got it since; this can't be told from the link, and such a program only loses the name. */
 static bool is_left_over(const char *link)
 {
     char to[TERMINAL_PATH];

@@ -10,6 +10,7 @@
 enum {
     SEND_ROOM = 256,        /* bytes of replies that wait to go out */
     TERMINAL_PATH = 128,    /* bytes of the terminal's path */
+    BAUD_DEFAULT = 9600,
     BAUD_LEAST = 110,       /* or 0: bytes go as fast as they can */
     BAUD_MOST = 4000000,
     BAUD_PER_BYTE = 1000    /* baud that bring one byte a tick: 10 bits a byte, 100 ticks a second */

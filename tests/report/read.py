@@ -63,7 +63,8 @@ class Page(html.parser.HTMLParser):
 
 
 def curve(path, across):
-    """Least and greatest value by step, from a path of M, L, H and V; a stroke along the steps has its value in each of them."""
+    """Least and greatest value by step, from a path of M, L, H and V: what a stroke passes, since M alone draws nothing. A stroke along
+    the steps has its value in each of them, and one before a gap or the end goes to the end of its last step."""
     steps = -int(-across // 1)
     low, high, x, y = {}, {}, 0, 0
 
@@ -71,17 +72,20 @@ def curve(path, across):
         if k < steps:
             low[k], high[k] = min(low.get(k, v), v), max(high.get(k, v), v)
 
-    for letter, numbers in re.findall(r"([A-Z])([-0-9. ]*)", path):
+    strokes = re.findall(r"([A-Z])([-0-9. ]*)", path)
+    for (letter, numbers), (behind, _) in zip(strokes, strokes[1:] + [("M", "")]):
         numbers = [float(n) for n in numbers.split()]
-        if letter in "ML":
-            x, y = numbers
+        if letter != "M":
             see(x, y)
-        elif letter == "H":
-            for k in range(int(x) + 1, -int(-numbers[0] // 1) + (numbers[0] < steps)):
+        if letter == "H":
+            for k in range(int(x) + 1, -int(-numbers[0] // 1) + (behind != "M")):
                 see(k, y)
             x = numbers[0]
-        else:
+        elif letter == "V":
             y = numbers[0]
+        else:
+            x, y = numbers
+        if letter in "LV":
             see(x, y)
     return [f"{low[k]:.0f} {high[k]:.0f}" if k in low else "-" for k in range(steps)]
 

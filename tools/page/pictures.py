@@ -64,6 +64,8 @@ class Pictures:
         path, at, run = [], None, False
         for k, (a, b) in enumerate(zip(low, high)):
             if a is None:
+                if at is not None:
+                    path.append(f"H{k}")    # to the end of its step, so that a lone value is a stroke too
                 at = None
                 continue
             if at is None:

@@ -196,16 +196,19 @@ function sequence(to,    set) {
     } else if (to == "00" && runs != "") finish(ticks)
     stage = to
 }
-function finish(upto,    judged, error, what) {
-    judged = substr($10, 11)
-    error = substr($11, 7)
+# One that runs at the log's end has neither weight nor judgement: the last line may be no tick but what was refused.
+function finish(upto,    judged, error, net_now, gross_now, what) {
+    judged = upto == "-" ? "none" : substr($10, 11)
+    error = upto == "-" ? 0 : substr($11, 7)
+    net_now = upto == "-" ? 0 : substr($5, 5)
+    gross_now = upto == "-" ? 0 : substr($4, 7)
     what = from " " upto " " error
     tally[(runs == "03" ? "batch " : "discharge ") (upto == "-" ? "open" : error != "0" ? "error" error : runs == "03" ? judged : "ok")]++
     if (runs == "03") {
-        row("batch", what " " final " " substr($5, 5) " " judged)
+        row("batch", what " " final " " net_now " " judged)
         if (judged != "none" && error == "0") booked_last = found["batch"]
     } else
-        row("discharge", what " " from_gross " " substr($4, 7) " " near)
+        row("discharge", what " " from_gross " " gross_now " " near)
     runs = ""
 }
 

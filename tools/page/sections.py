@@ -50,7 +50,7 @@ def section_days(found, cut):
     if short:
         told += '<ul class="sums">' + "".join(f"<li>{words}</li>\n" for words in sums_told) + "</ul>\n"
     unit = f"One tenth of a division, in which ./pressgully ticket prints these, is {kg(d)} kg."
-    return body + told + '<p class="small">All weights are in kg; total is in whole kg, as the scale shows them. ' \
+    return body + told + '<p class="small">All weights are in kg; total is in whole kg, as the scale shows it. ' \
         f"{unit} Tracked, batches and total are as they stood at the end of the row's day.</p>\n"
 
 
@@ -159,7 +159,7 @@ def section_batches(found, cut):
             words.append(f'<span class="alarm">error {error}</span>: {escape(ERRORS.get(error, ""))}')
         if number in undone:
             words.append("taken back")
-        known = judged != "none" and end != "-"
+        known = end != "-" and error != 9   # a bad tick has no weight
         rows.append([grouped(number), clock(int(start)), clock(int(end)) if end != "-" else "", grouped(int(final)),
                      grouped(weight) if known else "", signed(weight - int(final)) if known else "", ", ".join(words)])
     count = found.counts["batch"]

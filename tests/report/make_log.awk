@@ -1,4 +1,4 @@
-# A log for replay that is made, not recorded: awk -v kind=tank|hopper -v ticks=N -v seed=S -f tests/report/day.awk
+# A log for replay that is made, not recorded: awk -v kind=tank|hopper -v ticks=N -v seed=S -f tests/report/make_log.awk
 # for the report's tests and its picture. A cycle of twelve minutes has a batch; the tank is weighed by loss and drawn slowly besides, the
 # hopper is filled and discharged. At a third and at two thirds of the log a tanker refills by contact. Some requests are such that they are
 # refused, one batch is stopped, one meets a bad tick, and the day is closed five seconds before the end.
