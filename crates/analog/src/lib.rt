@@ -1,4 +1,6 @@
 // The analog value: f64, each operation rounded once, in the outline's order.
+#![tactic(auto)]
+
 ghost use Rattle.std.specs.Prelude.{◌≡◌};
 ghost use Rattle.outline.specs.Analog.{scale_of, between_of, clip_of, analog_of};
 ghost use Rattle.outline.specs.Numbers.{analog_number, analog_values};

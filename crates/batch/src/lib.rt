@@ -1,5 +1,7 @@
 // Step 6: what a batch or a discharge does at a tick. Error 9 comes first, in every stage; then the clock and the stage, which stand in
 // `stages` for a batch and in `discharge` for a discharge.
+#![tactic(auto)]
+
 ghost use Rattle.std.specs.Prelude.{◌≡◌};
 ghost use Rattle.outline.specs.Stages.{facts_at, advance_of};
 

@@ -49,7 +49,7 @@ pub(crate) fn of_state(st: State) -> u64 {
 }
 
 // The outputs of all ticks so far, each folded in by a step or two. Stage, judgement and error are parts of the state too.
-#[derive(Drop)]
+#[derive(Clone, Copy)]
 pub(crate) struct Seen {
     pub gross: i32,
     pub net: i32,

@@ -29,7 +29,7 @@ const BLOCK: usize = 4_096;
 pub(crate) const COUNTS: usize = 12_288;
 
 // What is asked for, but for the settings.
-#[derive(Drop)]
+#[derive(Clone, Copy)]
 pub(crate) struct Head {
     pub mode: u32,
     pub rounds: u32,

@@ -3,6 +3,8 @@
 // done, a digest of the last state, and one of all outputs, which the peer's side (peer/bench.c) must print too.
 //
 // A round is three blocks of counts. Before a block the modes 1 and 2 have a tick with a request: the setpoints, a start, a stop.
+#![tactic(auto)]
+
 use crate::digest::Seen;
 use crate::input::Head;
 use crate::modes::{Run, asked_ticks, block_ticks, line_ticks, unasked_ticks};

@@ -14,7 +14,7 @@ const LINES: usize = 16;
 
 const LINE_BYTES: usize = 64;
 
-#[derive(Drop)]
+#[derive(Clone, Copy)]
 pub(crate) struct Run {
     pub state: State,
     pub seen: Seen,

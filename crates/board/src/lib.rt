@@ -1,6 +1,8 @@
 // The calls of board/pressgully.h. Between them nothing is kept: the state lies in the caller's 288 bytes, the settings in the caller's
 // 128. A call judges both images, bytes and ranges, and runs its ticks in the buffer of the state; a refused one changes no byte of any
 // buffer. An opening and a growth ask of the state's buffer its length alone; a growth judges the earlier image in its place.
+#![tactic(auto)]
+
 ghost use Rattle.std.specs.Prelude.{◌≡◌, cond, length};
 ghost use Rattle.outline.specs.Numbers.{outcome_number, block_number, told_number};
 ghost use Rattle.outline.specs.Settings.{open_of};

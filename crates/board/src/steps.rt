@@ -206,7 +206,7 @@ fn discharge(state: &mut [u8])
 }
 
 // The batch that was booked last goes out of the totals again.
-fn take_back_lem(state: &mut [u8])
+fn take_back(state: &mut [u8])
     ensures { Turns state.old state.new (λ (st : State). with_totals st (taken_back st.totals)) }
 {
     let totals = totals_at(state);
@@ -230,7 +230,7 @@ pub(crate) fn settle(d: Request, x: Weights, state: &mut [u8], answer: &mut [u8]
         Request::Stop => return,
         Request::Set(_) => return,
         Request::TotalClear => return put_totals(state, totals::clear_totals()),
-        Request::Undo => return take_back_lem(state),
+        Request::Undo => return take_back(state),
         Request::ShowGross => return show(Display::Gross, state),
         Request::ShowNet => return show(Display::Net, state),
         Request::DayClose => return close(state, answer),

@@ -1,4 +1,6 @@
 // What a receive buffer asks for: its prefix and its command. Every buffer is taken, of any bytes.
+#![tactic(auto)]
+
 ghost use Rattle.std.specs.Prelude.{◌≡◌};
 ghost use Rattle.outline.specs.Lines.{is_prefixed, spoken_of, command_of};
 

@@ -1,6 +1,8 @@
 // The controller: its opening, one tick in the outline's six steps, a block of ticks. Settings and state go in by value, and the state
 // comes back; nothing is asked of a caller. Each step is a call of its section, and assigns the part of the state that it makes: a
 // function that takes the state and gives it back would copy it whole.
+#![tactic(auto)]
+
 ghost use Rattle.std.specs.Prelude.{◌≡◌};
 ghost use Rattle.outline.specs.Tick.{tick_of};
 ghost use Rattle.outline.specs.Numbers.{outcome_number};

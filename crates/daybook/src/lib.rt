@@ -1,4 +1,6 @@
 // The day book. It is given raw and the refill contact and nothing else.
+#![tactic(auto)]
+
 ghost use Rattle.std.specs.Prelude.{◌≡◌, ◌-ℤ◌};
 ghost use Rattle.outline.specs.DayBook.{open_book, booked_of, in_day, day_count, later_good, book_of, closed_of};
 

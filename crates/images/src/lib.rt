@@ -1,5 +1,7 @@
 // Images: a state in 288 bytes and settings in 128, as docs/IMAGES.md fixes them. The parts of a state are read and written in their
 // places; an image is judged by its bytes and by its ranges. Nothing is kept here.
+#![tactic(auto)]
+
 ghost use Rattle.images.specs.Figures.{Imaged, Judged, Earlier};
 ghost use Rattle.images.specs.Owed.{ReadBack, OneImage, UnusedZero, GivenBack, OneGiven, UnusedGiven, Decides, RunsPass, FromImages};
 ghost use Rattle.images.specs.Owed.{EarlierPass, Grows, EarlierRead};

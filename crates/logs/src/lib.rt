@@ -1,5 +1,7 @@
 // The lines of a log, `count contact request`: what stands in one, and whether it can be read at all. Every line is taken, of any bytes.
 // The modules find the lines of an input among the bytes held, run the tick of each, and write what the ticket program prints.
+#![tactic(auto)]
+
 ghost use Rattle.std.specs.Prelude.{◌≡◌};
 ghost use Rattle.outline.specs.Log.{is_contact, is_rest, log_line_of, is_none};
 

@@ -17,7 +17,7 @@ const EQUALS: u8 = 61;
 const LF: u8 = 10;
 
 // A number as it is printed: whether a minus stands before it, and its magnitude.
-#[derive(Drop)]
+#[derive(Clone, Copy)]
 pub(crate) struct Amount {
     pub minus: bool,
     pub size: u64,

@@ -1,4 +1,6 @@
 // The outline's number of each answer, stage and error, and the house's of a judgement and of a kind of analog value.
+#![tactic(auto)]
+
 ghost use Rattle.std.specs.Prelude.{◌≡◌};
 ghost use Rattle.outline.specs.Numbers.{refusal_number, outcome_number, told_number, stage_number, error_number, judgement_number, analog_number};
 

@@ -1,5 +1,7 @@
 // The paper: the definitions over the types of the machine stand in specs/, a file for each section of the outline.
 // Nothing here does a tick's work; the crates above do, and promise that they do what the definitions say.
+#![tactic(auto)]
+
 ghost use Rattle.outline.specs.Figures.{Starred, Runs, Table};
 ghost use Rattle.outline.specs.Worked.{Batches, Letters, Lines};
 ghost use Rattle.outline.specs.LogFigures.{Logs, Inputs, Tickets};

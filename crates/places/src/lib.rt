@@ -1,5 +1,7 @@
 // Numbers at a place of a buffer: read and written big-endian, signed ones in two's complement, a flag as a byte that is 0 or 1. A byte
 // past the end reads as 0 and is not written, so that nothing is asked of a caller.
+#![tactic(auto)]
+
 ghost use Rattle.std.specs.Prelude.{◌≡◌, min, length, get_or, set, replicate};
 ghost use Rattle.std.specs.Int.{w32, w64};
 ghost use Rattle.places.specs.Places.{be_at, put_be, signed, coded, flag_of, flag_tag, zeros_at};

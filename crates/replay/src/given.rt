@@ -5,14 +5,14 @@ use types::log::LogNumber;
 use types::settings::Given;
 
 // What the first line reads as.
-#[derive(Drop)]
+#[derive(Clone, Copy)]
 pub(crate) enum GivenLine {
     Read(Given),
     Unreadable,
 }
 
 // A number, and the place where the next one begins.
-#[derive(Drop)]
+#[derive(Clone, Copy)]
 enum Step {
     Next(i32, usize),
     Wrong,

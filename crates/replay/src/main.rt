@@ -3,6 +3,8 @@
 // Standard input: a first line of 25 whole numbers, the settings, then a line `count contact request` for each tick. Standard output:
 // `answer=` and the number of the opening, then a line of key=value pairs for each tick. The first argument, 0 to 64, is the
 // length of the reply buffer (64 without it).
+#![tactic(auto)]
+
 ghost use Rattle.std.specs.Prelude.{◌≤◌};
 
 use crate::given::GivenLine;
@@ -92,7 +94,7 @@ fn read_log(room: usize) {
 }
 
 // What the first argument reads as: the length of the reply buffer.
-#[derive(Drop)]
+#[derive(Clone, Copy)]
 enum Room {
     Bytes(usize),
     Wrong,

@@ -1,4 +1,6 @@
 // Replies of the serial line, written into the caller's buffer. A reply stands at the buffer's start or not at all; bytes behind it stay.
+#![tactic(auto)]
+
 ghost use Rattle.std.specs.Prelude.{◌≡◌, ◌≤◌, length};
 ghost use Rattle.outline.specs.Lines.{prefix_length};
 ghost use Rattle.outline.specs.Replies.{prefix_text, reply_text, written_of};
@@ -25,7 +27,7 @@ const LF: u8 = 10;
 const END_BYTES: usize = 2;
 
 // How many bytes the reply has, or that the buffer is shorter than that.
-#[derive(Drop)]
+#[derive(Clone, Copy)]
 pub enum Wrote {
     Bytes(usize),
     Short,

@@ -1,5 +1,7 @@
 // Step 4: whether the tick's request is accepted, by the outline's table of refusals. What an accepted request does is a call of its
 // section, which the tick makes.
+#![tactic(auto)]
+
 ghost use Rattle.std.specs.Prelude.{◌≡◌, cond, [], ◌∷◌};
 ghost use Rattle.outline.specs.Requests.{row1, row2, row3, row4, row5, row6, row7, row8, row9, rows_to, first_of, grant_of};
 ghost use Rattle.outline.specs.Setpoints.{setpoints_fit};

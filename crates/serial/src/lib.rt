@@ -1,4 +1,6 @@
 // A tick with a line: the line in the receive buffer is the tick's request, and its reply goes into the caller's reply buffer.
+#![tactic(auto)]
+
 ghost use Rattle.std.specs.Prelude.{◌≡◌};
 ghost use Rattle.outline.specs.Tick.{tick_of, unasked_of};
 ghost use Rattle.outline.specs.Numbers.{told_number};

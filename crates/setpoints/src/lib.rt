@@ -1,4 +1,6 @@
 // The setpoint rules.
+#![tactic(auto)]
+
 ghost use Rattle.std.specs.Prelude.{◌≡◌};
 ghost use Rattle.outline.specs.Setpoints.{open_setpoints, seven_fit, preliminary_fits, optional_fits, setpoints_fit, no_large_flow};
 

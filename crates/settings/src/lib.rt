@@ -1,4 +1,6 @@
 // What is made of settings, once at opening, where every number is in its range.
+#![tactic(auto)]
+
 ghost use Rattle.std.specs.Prelude.{◌≡◌, true};
 ghost use Rattle.outline.specs.Settings.{settings_fit, mode_of, board_of, settings_of, open_of};
 

@@ -1,6 +1,8 @@
 // The ticket program. It reads a log from standard input, a line `count contact request` for each tick, runs the controller under
 // settings A of the outline, and prints a ticket at each accepted day close. At a line that can't be read it prints
 // `refused=` and the line's number, and ends. It only reads, calls and writes: what is read, done and printed is promised by the calls.
+#![tactic(auto)]
+
 use crate::input::{first_line, next_line};
 use controller::opening::{open, open_state};
 use libc::STDOUT_FILENO;

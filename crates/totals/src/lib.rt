@@ -1,4 +1,6 @@
 // Booking at finish, undo and total clear.
+#![tactic(auto)]
+
 ghost use Rattle.std.specs.Prelude.{◌≡◌, ◌-◌};
 ghost use Rattle.outline.specs.Totals.{clear_totals, bookable, booked_totals, booked_sequence, none_back, taken_back};
 
@@ -82,7 +84,7 @@ pub fn has_none_back(t: Totals) -> bool
 }
 
 // Undo: the last booked batch is taken back, once. The differences stop at 0.
-pub fn take_back_lem(t: Totals) -> Totals
+pub fn take_back(t: Totals) -> Totals
     ensures { result ≡ taken_back t }
 {
     let back = t.back;

@@ -1,6 +1,6 @@
 // The analog board and what it is given to put out.
 
-#[derive(Drop)]
+#[derive(Clone, Copy)]
 pub enum Board {
     None,
     Current,
@@ -8,14 +8,14 @@ pub enum Board {
 }
 
 // The low end and D = high - low, made once when settings are accepted.
-#[derive(Drop)]
+#[derive(Clone, Copy)]
 pub struct Scale {
     pub low: f64,
     pub span: f64,
 }
 
 // A current in mA, a voltage in V, or no value.
-#[derive(Drop)]
+#[derive(Clone, Copy)]
 pub enum Analog {
     None,
     Current(f64),

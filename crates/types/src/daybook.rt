@@ -1,7 +1,7 @@
 // The day book, in tenths of a division.
 
 // Its narrow fields stand last: a gap between fields is copied with them, wherever a book is.
-#[derive(Drop)]
+#[derive(Clone, Copy)]
 pub struct Book {
     pub opening: i32,
     // the last good raw
@@ -18,7 +18,7 @@ pub struct Book {
 }
 
 // What an accepted day close ended: the day as step 2 left it. Its closing raw is `last`.
-#[derive(Drop)]
+#[derive(Clone, Copy)]
 pub enum Closed {
     Nothing,
     Day(Book),

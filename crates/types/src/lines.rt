@@ -4,7 +4,7 @@ use crate::requests::Refusal;
 use crate::stages::Setpoints;
 
 // Where the first CR LF of a buffer stands: nowhere, after more than 64 bytes, or after so many.
-#[derive(Drop)]
+#[derive(Clone, Copy)]
 pub enum LineEnd {
     Missing,
     Beyond,
@@ -12,7 +12,7 @@ pub enum LineEnd {
 }
 
 // The second answer: no line, a long line, an empty line and another.
-#[derive(Drop)]
+#[derive(Clone, Copy)]
 pub enum LineKind {
     NoLine,
     Long,
@@ -21,7 +21,7 @@ pub enum LineKind {
 }
 
 // A command of two letters alone.
-#[derive(Drop)]
+#[derive(Clone, Copy)]
 pub enum Word {
     ReadWeight,
     ReadTotal,
@@ -40,7 +40,7 @@ pub enum Word {
 }
 
 // What a pair of letters is: a command that stands alone, SS, or neither.
-#[derive(Drop)]
+#[derive(Clone, Copy)]
 pub enum Letters {
     One(Word),
     Set,
@@ -48,21 +48,21 @@ pub enum Letters {
 }
 
 // What a field of digits reads as.
-#[derive(Drop)]
+#[derive(Clone, Copy)]
 pub enum Digits {
     Number(u32),
     NotDigits,
 }
 
 // What the seven fields of SS read as.
-#[derive(Drop)]
+#[derive(Clone, Copy)]
 pub enum Fields {
     Points(Setpoints),
     Wrong,
 }
 
 // What a receive buffer asks for, or why it is refused.
-#[derive(Drop)]
+#[derive(Clone, Copy)]
 pub enum Command {
     Do(Word),
     Set(Setpoints),
@@ -74,7 +74,7 @@ pub enum Command {
 }
 
 // The weight as RW shows it.
-#[derive(Drop)]
+#[derive(Clone, Copy)]
 pub struct Shown {
     // good and not overloaded: ST or US and digits, else OL and spaces
     pub fit: bool,
@@ -85,7 +85,7 @@ pub struct Shown {
 }
 
 // What stands between prefix and CR LF; silent is no reply at all.
-#[derive(Drop)]
+#[derive(Clone, Copy)]
 pub enum Reply {
     Silent,
     Letters(u16),
@@ -96,7 +96,7 @@ pub enum Reply {
 }
 
 // What a line is answered: 0, a refusal 1 to 9, or 11 to 14.
-#[derive(Drop)]
+#[derive(Clone, Copy)]
 pub enum LineAnswer {
     Done,
     Refused(Refusal),
@@ -108,7 +108,7 @@ pub enum LineAnswer {
 
 // A tick with a line: the line's answer, the reply's length, the tick's outputs, the next state. After 11 to 14 the outputs are those
 // of a tick without a request, whose own outcome is 0.
-#[derive(Drop)]
+#[derive(Clone, Copy)]
 pub struct LineTick {
     pub told: LineAnswer,
     pub length: usize,

@@ -1,6 +1,6 @@
 // A log: a line for each tick, as the programs read it.
 // A whole number in a line and the place behind it, or no such number.
-#[derive(Drop)]
+#[derive(Clone, Copy)]
 pub enum LogNumber {
     Number(i32, usize),
     Unreadable,
@@ -8,7 +8,7 @@ pub enum LogNumber {
 
 // What a line says: its count and contact, and the place where its request begins. A line that can't be read says nothing, and has `read`
 // false.
-#[derive(Drop)]
+#[derive(Clone, Copy)]
 pub struct LogLine {
     pub read: bool,
     pub count: i32,
@@ -17,7 +17,7 @@ pub struct LogLine {
 }
 
 // A line of an input of which a buffer holds a piece: its place there, and what it says.
-#[derive(Drop)]
+#[derive(Clone, Copy)]
 pub struct Line {
     // the line's bytes, without its LF
     pub from: usize,

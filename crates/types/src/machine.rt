@@ -5,7 +5,7 @@ use crate::requests::{Outcome, Request};
 use crate::stages::{Gates, Judgement, Sequence, SequenceError, Setpoints, Stage, Totals, Waiting};
 use crate::weight::{Panel, Stability, Weighing};
 
-#[derive(Drop)]
+#[derive(Clone, Copy)]
 pub struct State {
     pub book: Book,
     pub stability: Stability,
@@ -18,7 +18,7 @@ pub struct State {
     pub totals: Totals,
 }
 
-#[derive(Drop)]
+#[derive(Clone, Copy)]
 pub struct Input {
     pub count: i32,
     // the refill contact is closed
@@ -27,7 +27,7 @@ pub struct Input {
 }
 
 // Step 4: how the request is settled, and the state after it.
-#[derive(Drop)]
+#[derive(Clone, Copy)]
 pub struct Settled {
     pub outcome: Outcome,
     pub state: State,
@@ -38,7 +38,7 @@ pub struct Settled {
     pub closed: Closed,
 }
 
-#[derive(Drop)]
+#[derive(Clone, Copy)]
 pub struct Reading {
     pub good: bool,
     pub overload: bool,
@@ -48,7 +48,7 @@ pub struct Reading {
 }
 
 // Every output of a tick.
-#[derive(Drop)]
+#[derive(Clone, Copy)]
 pub struct Answer {
     pub outcome: Outcome,
     pub reading: Reading,
@@ -63,20 +63,20 @@ pub struct Answer {
     pub closed: Closed,
 }
 
-#[derive(Drop)]
+#[derive(Clone, Copy)]
 pub struct Ticked {
     pub state: State,
     pub answer: Answer,
 }
 
 // A block is run, or it is longer than 4,096 counts and refused.
-#[derive(Drop)]
+#[derive(Clone, Copy)]
 pub enum BlockAnswer {
     Run,
     TooLong,
 }
 
-#[derive(Drop)]
+#[derive(Clone, Copy)]
 pub struct Blocked {
     pub answer: BlockAnswer,
     pub state: State,

@@ -1,7 +1,7 @@
 // What a tick may be asked, and how it is answered.
 use crate::stages::Setpoints;
 
-#[derive(Drop)]
+#[derive(Clone, Copy)]
 pub enum Request {
     Nothing,
     Zero,
@@ -19,7 +19,7 @@ pub enum Request {
 }
 
 // The outline's refusals 1 to 7, 8 of request A6, and 9 of request A1.
-#[derive(Drop)]
+#[derive(Clone, Copy)]
 pub enum Refusal {
     BadTick,
     Overload,
@@ -32,7 +32,7 @@ pub enum Refusal {
     LossInWeight,
 }
 
-#[derive(Drop)]
+#[derive(Clone, Copy)]
 pub enum Outcome {
     Done,
     Refused(Refusal),

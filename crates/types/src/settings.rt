@@ -3,7 +3,7 @@ use crate::analog::{Board, Scale};
 
 // Every row of the outline's table, and then those of a discharge, as numbers that may lie outside their ranges. The board's numbers are
 // the house's.
-#[derive(Drop)]
+#[derive(Clone, Copy)]
 pub struct Given {
     // zero count Z and span count S
     pub zero: i32,
@@ -44,7 +44,7 @@ pub struct Given {
 }
 
 // Z; the counts from Z to S, S - Z; W.
-#[derive(Drop)]
+#[derive(Clone, Copy)]
 pub struct Calibration {
     pub zero: i32,
     pub counts: u32,
@@ -52,7 +52,7 @@ pub struct Calibration {
 }
 
 // C, d and p.
-#[derive(Drop)]
+#[derive(Clone, Copy)]
 pub struct Range {
     pub capacity: u16,
     pub division: u8,
@@ -60,7 +60,7 @@ pub struct Range {
 }
 
 // q, w and L.
-#[derive(Drop)]
+#[derive(Clone, Copy)]
 pub struct Tracking {
     pub time: u16,
     pub width: u8,
@@ -68,20 +68,20 @@ pub struct Tracking {
 }
 
 // k and s.
-#[derive(Drop)]
+#[derive(Clone, Copy)]
 pub struct Steadiness {
     pub time: u16,
     pub width: u8,
 }
 
-#[derive(Drop)]
+#[derive(Clone, Copy)]
 pub enum Mode {
     Normal,
     Loss,
 }
 
 // A discharge: its start delay, end delay and limit.
-#[derive(Drop)]
+#[derive(Clone, Copy)]
 pub struct Discharging {
     pub start: u16,
     pub end: u16,
@@ -89,7 +89,7 @@ pub struct Discharging {
 }
 
 // The mode, the five delays, the flow limit Q, and what a discharge goes by.
-#[derive(Drop)]
+#[derive(Clone, Copy)]
 pub struct Batching {
     pub mode: Mode,
     pub start: u16,
@@ -102,7 +102,7 @@ pub struct Batching {
 }
 
 // Accepted settings.
-#[derive(Drop)]
+#[derive(Clone, Copy)]
 pub struct Settings {
     pub calibration: Calibration,
     pub range: Range,
@@ -115,7 +115,7 @@ pub struct Settings {
 }
 
 // What an opening answers: 10 and no state, or the settings as accepted. The state that goes with these is the same for all.
-#[derive(Drop)]
+#[derive(Clone, Copy)]
 pub enum Opening {
     Refused,
     Accepted(Settings),

@@ -1,7 +1,7 @@
 // Setpoints, the sequence of a batch and of a discharge, and the totals.
 
 // In display digits: final F, free fall FF, preliminary P, optional preliminary OP (mode 2: full), over, under, near zero.
-#[derive(Drop)]
+#[derive(Clone, Copy)]
 pub struct Setpoints {
     pub target: u32,
     pub fall: u32,
@@ -13,21 +13,21 @@ pub struct Setpoints {
 }
 
 // Setpoints that were written, or none.
-#[derive(Drop)]
+#[derive(Clone, Copy)]
 pub enum Write {
     Nothing,
     Points(Setpoints),
 }
 
 // Request A5: the setpoints that were written while a batch or a discharge ran. They come into use when its stage is 00 again.
-#[derive(Drop)]
+#[derive(Clone, Copy)]
 pub struct Waiting {
     pub write: Write,
 }
 
 // Stages 00, 03 to 11 of a batch, and 14 to 16 of a discharge. A timed stage holds 0 on entering, and one more after each tick that it
 // stays; the paper's number of the stage says nothing of it.
-#[derive(Drop)]
+#[derive(Clone, Copy)]
 pub enum Stage {
     Idle,
     StartDelay(u16),
@@ -44,7 +44,7 @@ pub enum Stage {
     DischargeEnd(u16),
 }
 
-#[derive(Drop)]
+#[derive(Clone, Copy)]
 pub enum Judgement {
     None,
     Ok,
@@ -53,7 +53,7 @@ pub enum Judgement {
 }
 
 // None; of a batch errors 1, 2, 4, 6, 9 and 10; of a discharge 7, 8 and 9.
-#[derive(Drop)]
+#[derive(Clone, Copy)]
 pub enum SequenceError {
     None,
     NoFinal,
@@ -66,7 +66,7 @@ pub enum SequenceError {
     DischargeTime,
 }
 
-#[derive(Drop)]
+#[derive(Clone, Copy)]
 pub struct Sequence {
     pub stage: Stage,
     // the flow clock in 04 to 11, the discharge's in 15 and 16
@@ -75,7 +75,7 @@ pub struct Sequence {
     pub judgement: Judgement,
 }
 
-#[derive(Drop)]
+#[derive(Clone, Copy)]
 pub struct Gates {
     pub large: bool,
     pub medium: bool,
@@ -84,7 +84,7 @@ pub struct Gates {
 }
 
 // What the sequence asks of a tick's weights.
-#[derive(Drop)]
+#[derive(Clone, Copy)]
 pub struct Facts {
     // bad or overloaded
     pub unfit: bool,
@@ -101,14 +101,14 @@ pub struct Facts {
 }
 
 // What a timed stage does at a tick: it is over, or it stays with so many ticks behind it.
-#[derive(Drop)]
+#[derive(Clone, Copy)]
 pub enum Timing {
     Over,
     Still(u16),
 }
 
 // What a stage says at a tick.
-#[derive(Drop)]
+#[derive(Clone, Copy)]
 pub enum Move {
     To(Stage),
     Fail(SequenceError),
@@ -118,21 +118,21 @@ pub enum Move {
 }
 
 // The sequence after step 6, and whether a batch finished.
-#[derive(Drop)]
+#[derive(Clone, Copy)]
 pub struct Advanced {
     pub sequence: Sequence,
     pub finished: bool,
 }
 
 // The batch that undo would take back.
-#[derive(Drop)]
+#[derive(Clone, Copy)]
 pub enum Batch {
     Nothing,
     Weight(u64),
 }
 
 // Total in display digits, count of batches, and the batch that can be taken back.
-#[derive(Drop)]
+#[derive(Clone, Copy)]
 pub struct Totals {
     pub total: u64,
     pub count: u32,

@@ -1,14 +1,14 @@
 // From count to weight, and the zero that it is taken from.
 
 // What a count makes: a bad tick, or raw in tenths of a division.
-#[derive(Drop)]
+#[derive(Clone, Copy)]
 pub enum Raw {
     Bad,
     Tenths(i32),
 }
 
 // Whether the tick before was good, and the run of steady ticks. The raw of that tick is the day book's last good raw.
-#[derive(Drop)]
+#[derive(Clone, Copy)]
 pub struct Stability {
     pub good: bool,
     pub run: u16,
@@ -16,7 +16,7 @@ pub struct Stability {
 
 // The zero in force and what tracking moved it by, in tenths; the tare, in display digits; the tracking counter. The narrow field stands
 // last, so that no gap between fields is copied with each tick.
-#[derive(Drop)]
+#[derive(Clone, Copy)]
 pub struct Weighing {
     pub zero: i32,
     pub tracked: i32,
@@ -25,21 +25,21 @@ pub struct Weighing {
 }
 
 // The weight that is displayed.
-#[derive(Drop)]
+#[derive(Clone, Copy)]
 pub enum Display {
     Gross,
     Net,
 }
 
 // What the front panel shows: an enum in a struct of its own, since a field that holds an enum can't be assigned.
-#[derive(Drop)]
+#[derive(Clone, Copy)]
 pub struct Panel {
     pub display: Display,
 }
 
 // What a tick weighs, worked out in step 3 and again after step 4. The tick's refill contact stands beside it, since a zero and tracking
 // ask for it.
-#[derive(Drop)]
+#[derive(Clone, Copy)]
 pub struct Weights {
     pub good: bool,
     pub contact: bool,

@@ -1,4 +1,6 @@
 // From raw to weight. Raw and gross fine are in tenths, gross, net and tare in display digits.
+#![tactic(auto)]
+
 ghost use Rattle.std.specs.Prelude.{◌≡◌};
 ghost use Rattle.outline.specs.Weight.{overload_of, kept_of, weigh_of, displayed_of, fit_of};
 

@@ -1,4 +1,6 @@
 // Zero and tare: when each is accepted, and what it does. Raw is in tenths, gross and tare in display digits.
+#![tactic(auto)]
+
 ghost use Rattle.std.specs.Prelude.{◌≡◌};
 ghost use Rattle.outline.specs.Zero.{in_zero_range, zeroed_of, in_tare_range, tared_of};
 

@@ -1,8 +1,8 @@
 -- With nothing to take back nothing changes; else both differences are those of `less`.
 use borrow.Author.Rules.{rules}
 use Rattle.outline.specs.Totals.{taken_back}
-use Rattle.totals.proofs.take_back_lem.Statement.{statement}
-use Rattle.totals.proofs.take_back_lem.Tie as tie
+use Rattle.totals.proofs.take_back.Statement.{statement}
+use Rattle.totals.proofs.take_back.Tie as tie
 
 enum_told : tie.Need-enum-told
 enum_told c = search rules

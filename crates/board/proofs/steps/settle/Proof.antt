@@ -197,7 +197,7 @@ returns-9 c =
     let start = c.before.before.before.before.before.before.before.before.before.before.before.before in
     let told = ap beside_batch c.before.before.before.before.enum-told9.given.1 in
     let x = start.args.x in (
-      (λ st h. held_as (ap leaving (left_undo st x _ told _ refl)) (c.before.before.take_back_lem.ensures st h)),
+      (λ st h. held_as (ap leaving (left_undo st x _ told _ refl)) (c.before.before.take_back.ensures st h)),
       (λ st h. c.before.before.before.before.before.before.before.before.put-none.ensures ∙ ap (closing start.args.answer.now) (left_undo st x _ told _ refl)),
     )
 

@@ -5,8 +5,8 @@ use Rattle.outline.specs.Totals.{taken_back}
 use Rattle.outline.specs.Parts.{with_totals}
 use Rattle.board.proofs.Held.{read_part, held_as}
 use borrow.Author.Rules.{rules}
-use Rattle.board.proofs.steps.take_back_lem.Statement.{statement}
-use Rattle.board.proofs.steps.take_back_lem.Tie as tie
+use Rattle.board.proofs.steps.take_back.Statement.{statement}
+use Rattle.board.proofs.steps.take_back.Tie as tie
 
 totals-at-requires : tie.Need-totals-at-requires
 totals-at-requires c κs = search rules
@@ -21,7 +21,7 @@ same_length : tie.Need-same-length
 same_length c = search rules
 
 returns : tie.Need-returns
-returns c st h = held_as (λ i. with_totals st ((c.before.before.before.take_back_lem.ensures ∙ ap taken_back (read_part (λ (t : State). t.totals) c.before.before.before.before.before.totals-at.ensures h)) i)) (c.before.before.put-totals.ensures.0 st h)
+returns c st h = held_as (λ i. with_totals st ((c.before.before.before.take_back.ensures ∙ ap taken_back (read_part (λ (t : State). t.totals) c.before.before.before.before.before.totals-at.ensures h)) i)) (c.before.before.put-totals.ensures.0 st h)
 
 pub take_back_spec : {M : Type 1} → statement M
 take_back_spec =
