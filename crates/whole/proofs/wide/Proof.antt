@@ -3,7 +3,7 @@ use Rattle.whole.specs.Machine.{machine}
 use Rattle.whole.proofs.wide.Statement.{statement}
 use Rattle.whole.proofs.wide.Tie as tie
 
-cast-result : tie.Need-overflow-cast-result
+cast-result : tie.Need-overflow_cast-result
 cast-result c = search machine
 
 returns : tie.Need-returns
