@@ -24,38 +24,38 @@ numbered : (b : Board) (s : Scale) (w : ℤ) (fit : Bool) (r : Analog) → r ≡
     → (r ≡ analog_of b s w fit) × ((analog_number r ≡ analog_due b fit) × (analog_values r ≡ analog_values_due b s w fit))
 numbered b s w fit r e = (e, (ap analog_number e ∙ analog_number_lem b s w fit, ap analog_values e ∙ analog_values_lem b s w fit))
 
-returns : tie.Need-returns
+returns : tie.Need-returns-then-not-fit
 unfolding analog_of
 returns c =
     let a = c.before.args in
-    numbered a.board a.scale a.displayed a.fit _ (simp (not-true a.fit c.if1.true))
+    numbered a.board a.scale a.displayed a.fit _ (simp (not-true a.fit c.if-not-fit.true))
 
-is-fitted-requires : tie.Need-is-fitted-requires
+is-fitted-requires : tie.Need-is_fitted-requires
 is-fitted-requires c κs = search rules
 
-returns-2 : tie.Need-returns-2
+returns-2 : tie.Need-returns-then-not-is_fitted
 unfolding analog_of
 returns-2 c =
     let s = c.before.before.before in
     let a = s.args in
-    let none : fitted a.board ≡ false = sym c.before.is-fitted.ensures ∙ not-true _ c.if2.true in
+    let none : fitted a.board ≡ false = sym c.before.is_fitted.ensures ∙ not-true _ c.if-not-is_fitted.true in
     let x = distance_of a.scale a.displayed in
     numbered a.board a.scale a.displayed a.fit _
-    (simp (not-false a.fit c.before.before.if1.false, no_value a.board x a.scale.span none))
+    (simp (not-false a.fit c.before.before.if-not-fit.false, no_value a.board x a.scale.span none))
 
-int-to-float-w : tie.Need-int-to-float-w
+int-to-float-w : tie.Need-int_to_float-w
 int-to-float-w c = search rules
 
-clipped-requires : tie.Need-clipped-requires
+clipped-requires : tie.Need-clipped-x-requires
 clipped-requires c κs = search rules
 
-enum_told : tie.Need-enum-told
+enum_told : tie.Need-enum_told-1
 enum_told c = search rules
 
-enum-told-2 : tie.Need-enum-told-2
+enum-told-2 : tie.Need-enum_told-in-Current
 enum-told-2 c = search rules
 
-enum-told-3 : tie.Need-enum-told-3
+enum-told-3 : tie.Need-enum_told-in-Voltage
 enum-told-3 c = search rules
 
 picked : (board : Board) (s : Scale) (w : ℤ) (fit : Bool) (b : Board) (x : Float) → fit ≡ true → board ≡ b
@@ -63,31 +63,31 @@ picked : (board : Board) (s : Scale) (w : ℤ) (fit : Bool) (b : Board) (x : Flo
 unfolding analog_of
 picked board s w fit b x g e h = simp (g, e, h)
 
-abbrev start : tie.After-clipped → tie.Start
+abbrev start : tie.After-clipped-x → tie.Start
 start c = c.before.before.before.before.before.before
 
-answered : (c : tie.After-clipped) (r : Analog) → let a = (start c).args in r ≡ analog_of a.board a.scale a.displayed a.fit
+answered : (c : tie.After-clipped-x) (r : Analog) → let a = (start c).args in r ≡ analog_of a.board a.scale a.displayed a.fit
     → (r ≡ analog_of a.board a.scale a.displayed a.fit) × ((analog_number r ≡ analog_due a.board a.fit)
     × (analog_values r ≡ analog_values_due a.board a.scale a.displayed a.fit))
 answered c r e = let a = (start c).args in numbered a.board a.scale a.displayed a.fit r e
 
-valued : (c : tie.After-clipped) (b : Board) → (start c).args.board ≡ b
-    → on_board b c.clipped.result (start c).args.scale.span
+valued : (c : tie.After-clipped-x) (b : Board) → (start c).args.board ≡ b
+    → on_board b c.clipped-x.result (start c).args.scale.span
     ≡ analog_of (start c).args.board (start c).args.scale (start c).args.displayed (start c).args.fit
 valued c b e =
     let s = start c in
     let a = s.args in
-    picked a.board a.scale a.displayed a.fit b c.clipped.result (not-false a.fit c.before.before.before.before.before.if1.false) e
-    (c.clipped.ensures ∙ ap (λ (z : ℤ). clip_of (sub binary64 (f64 z) a.scale.low) a.scale.span) (to_z-of_z s.fits.displayed))
+    picked a.board a.scale a.displayed a.fit b c.clipped-x.result (not-false a.fit c.before.before.before.before.before.if-not-fit.false) e
+    (c.clipped-x.ensures ∙ ap (λ (z : ℤ). clip_of (sub binary64 (f64 z) a.scale.low) a.scale.span) (to_z-of_z s.fits.displayed))
 
-returns-3 : tie.Need-returns-3
-returns-3 c = answered c.before.before _ (valued c.before.before None c.enum_told.given.1)
+returns-3 : tie.Need-returns-in-None
+returns-3 c = answered c.before.before _ (valued c.before.before None c.enum_told-1.given.1)
 
-returns-4 : tie.Need-returns-4
-returns-4 c = answered c.before.before _ (simp (is_16, is_4) (valued c.before.before Current c.enum-told2.given.1))
+returns-4 : tie.Need-returns-in-Current
+returns-4 c = answered c.before.before _ (simp (is_16, is_4) (valued c.before.before Current c.enum_told-in-Current-1.given.1))
 
-returns-5 : tie.Need-returns-5
-returns-5 c = answered c.before.before _ (simp (is_10, is_0) (valued c.before.before Voltage c.enum-told3.given.1))
+returns-5 : tie.Need-returns-in-Voltage
+returns-5 c = answered c.before.before _ (simp (is_10, is_0) (valued c.before.before Voltage c.enum_told-in-Voltage-1.given.1))
 
 pub analog_value_spec : {M : Type 1} → statement M
 analog_value_spec =

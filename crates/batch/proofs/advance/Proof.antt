@@ -6,42 +6,42 @@ use Rattle.outline.specs.Stages.{advance_of}
 use Rattle.batch.proofs.advance.Statement.{statement}
 use Rattle.batch.proofs.advance.Tie as tie
 
-is-idle-requires : tie.Need-is-idle-requires
+is-idle-requires : tie.Need-is_idle-requires
 is-idle-requires c κs = search rules
 
-returns : tie.Need-returns
+returns : tie.Need-returns-then-is_idle
 unfolding advance_of
-returns c = simp (c.if1.true, ← c.before.is-idle.ensures)
+returns c = simp (c.if-is_idle.true, ← c.before.is_idle.ensures)
 
 fail-requires : tie.Need-fail-requires
 fail-requires c κs = search rules
 
-returns-2 : tie.Need-returns-2
+returns-2 : tie.Need-returns-then-unfit
 unfolding advance_of
-returns-2 c = simp (c.fail.ensures, c.before.if2.true, c.before.before.if1.false, ← c.before.before.before.is-idle.ensures)
+returns-2 c = simp (c.fail.ensures, c.before.if-unfit.true, c.before.before.if-is_idle.false, ← c.before.before.before.is_idle.ensures)
 
-is-discharging-requires : tie.Need-is-discharging-requires
+is-discharging-requires : tie.Need-is_discharging-requires
 is-discharging-requires c κs = search rules
 
 discharged-requires : tie.Need-discharged-requires
 discharged-requires c κs = search rules
 
-returns-3 : tie.Need-returns-3
+returns-3 : tie.Need-returns-then-is_discharging
 returns-3 c =
     let f = c.before.before.before in
     let a = f.before.before.before in
     let e = simp (to_z-of_z a.ranges.gross) at (c.discharged.ensures a.args.stable a.args.v) in
-    simp (e, f.if2.false)
+    simp (e, f.if-unfit.false)
 
 batched-requires : tie.Need-batched-requires
 batched-requires c κs = search rules
 
-returns-4 : tie.Need-returns-4
+returns-4 : tie.Need-returns
 returns-4 c =
     let f = c.before.before.before in
     let a = f.before.before.before in
     let e = simp (to_z-of_z a.ranges.v) at (c.batched.ensures a.args.gross) in
-    simp (e, f.if2.false)
+    simp (e, f.if-unfit.false)
 
 pub advance_spec : {M : Type 1} → statement M
 advance_spec =

@@ -5,17 +5,17 @@ use borrow.Author.Rules.{rules}
 use Rattle.board.proofs.judged.Statement.{statement}
 use Rattle.board.proofs.judged.Tie as tie
 
-given-refusal-requires : tie.Need-given-refusal-requires
+given-refusal-requires : tie.Need-given_refusal-requires
 given-refusal-requires c κs = search rules
 
-bytes-refusal-requires : tie.Need-bytes-refusal-requires
+bytes-refusal-requires : tie.Need-bytes_refusal-requires
 bytes-refusal-requires c κs = search rules
 
-images-refusal-requires : tie.Need-images-refusal-requires
+images-refusal-requires : tie.Need-images_refusal-requires
 images-refusal-requires c κs = search rules
 
 returns : tie.Need-returns
-returns c = c.images-refusal.ensures ∙ (λ i. images_refusal (c.before.before.given-refusal.ensures i) (c.before.bytes-refusal.ensures i))
+returns c = c.images_refusal.ensures ∙ (λ i. images_refusal (c.before.before.given_refusal.ensures i) (c.before.bytes_refusal.ensures i))
 
 pub judged_spec : {M : Type 1} → statement M
 judged_spec =

@@ -12,81 +12,81 @@ use borrow.Author.Rules.{rules}
 use Rattle.board.proofs.pressgully_block.Statement.{statement}
 use Rattle.board.proofs.pressgully_block.Tie as tie
 
-judged-requires : tie.Need-judged-requires
+judged-requires : tie.Need-judged-why-requires
 judged-requires c κs = search rules
 
-cast-result : tie.Need-overflow-cast-result
+cast-result : tie.Need-overflow_cast-result
 cast-result c = search rules
 
-same_length : tie.Need-same-length
+same_length : tie.Need-shape_of-state-then-why-ne0
 same_length c = search rules
 
-returns : tie.Need-returns
+returns : tie.Need-returns-then-why-ne0
 returns c =
     let a = c.before.before.before.before.before.args in
-    let e = c.before.judged.ensures in
-    let r = block-kept a.settings.now a.state.now a.counts.now a.contact _ (by_bytes _ _ (λ k. c.if1.true (e ∙ k))) (λ k. c.if1.true (e ∙ k)) in
+    let e = c.before.judged-why.ensures in
+    let r = block-kept a.settings.now a.state-1.now a.counts.now a.contact _ (by_bytes _ _ (λ k. c.if-why-ne0.true (e ∙ k))) (λ k. c.if-why-ne0.true (e ∙ k)) in
     (e ∙ r.0, r.1)
 
-is-possible-requires : tie.Need-is-possible-requires
+is-possible-requires : tie.Need-is_possible-requires
 is-possible-requires c κs = search rules
 
-same-length-2 : tie.Need-same-length-2
+same-length-2 : tie.Need-shape_of-state-then-not-is_possible
 same-length-2 c = search rules
 
-returns-2 : tie.Need-returns-2
+returns-2 : tie.Need-returns-then-not-is_possible
 unfolding given_in
 returns-2 c =
     let a = c.before.before.before.before.before.before.before.before.args in
-    let w = sym c.before.before.before.before.judged.ensures ∙ c.before.before.before.if1.false in
-    let p = sym (c.before.is_possible.ensures ∙ possible_here _ _ (first_given_lem a.settings.now a.state.now w) (first_image a.settings.now a.state.now w)) ∙ not-true _ c.if2.true in
-    let r = block-kept a.settings.now a.state.now a.counts.now a.contact 21 (by_ranges a.settings.now a.state.now w p) (λ k. absurd (omega arith)) in
+    let w = sym c.before.before.before.before.judged-why.ensures ∙ c.before.before.before.if-why-ne0.false in
+    let p = sym (c.before.is_possible.ensures ∙ possible_here _ _ (first_given_lem a.settings.now a.state-1.now w) (first_image a.settings.now a.state-1.now w)) ∙ not-true _ c.if-not-is_possible.true in
+    let r = block-kept a.settings.now a.state-1.now a.counts.now a.contact 21 (by_ranges a.settings.now a.state-1.now w p) (λ k. absurd (omega arith)) in
     r
 
 opened-requires : tie.Need-opened-requires
 opened-requires c κs = search rules
 
-enum_told : tie.Need-enum-told
+enum_told : tie.Need-enum_told-1
 enum_told c = search rules
 
-same-length-3 : tie.Need-same-length-3
+same-length-3 : tie.Need-shape_of-state-in-Refused
 same-length-3 c = search rules
 
-returns-3 : tie.Need-returns-3
+returns-3 : tie.Need-returns-in-Refused
 unfolding given_in
 returns-3 c =
     let a = c.before.before.before.before.before.before.before.before.before.before.before.args in
-    let w = sym c.before.before.before.before.before.before.before.judged.ensures ∙ c.before.before.before.before.before.before.if1.false in
-    let g = first_given_lem a.settings.now a.state.now w in
-    let p = sym (c.before.before.before.before.is_possible.ensures ∙ possible_here _ _ g (first_image a.settings.now a.state.now w)) ∙ not-false _ c.before.before.before.if2.false in
-    let o = sym (c.before.before.opened.ensures g) ∙ c.enum_told.given.1 in
-    let r = block-kept a.settings.now a.state.now a.counts.now a.contact 10 (both_settings _ _ (unrefused a.settings.now a.state.now w p) o) (λ k. absurd (omega arith)) in
+    let w = sym c.before.before.before.before.before.before.before.judged-why.ensures ∙ c.before.before.before.before.before.before.if-why-ne0.false in
+    let g = first_given_lem a.settings.now a.state-1.now w in
+    let p = sym (c.before.before.before.before.is_possible.ensures ∙ possible_here _ _ g (first_image a.settings.now a.state-1.now w)) ∙ not-false _ c.before.before.before.if-not-is_possible.false in
+    let o = sym (c.before.before.opened.ensures g) ∙ c.enum_told-1.given.1 in
+    let r = block-kept a.settings.now a.state-1.now a.counts.now a.contact 10 (both_settings _ _ (unrefused a.settings.now a.state-1.now w p) o) (λ k. absurd (omega arith)) in
     r
 
-enum-known-s : tie.Need-enum-known-s
+enum-known-s : tie.Need-enum_known-s
 enum-known-s c = search rules
 
-run-block-requires : tie.Need-run-block-requires
+run-block-requires : tie.Need-run_block-requires
 run-block-requires c κs = search rules
 
-same-length-4 : tie.Need-same-length-4
+same-length-4 : tie.Need-shape_of-state-in-Accepted
 same-length-4 c = search rules
 
-returns-4 : tie.Need-returns-4
+returns-4 : tie.Need-returns-in-Accepted
 unfolding given_in block_by
 returns-4 c =
     let s = c.before.before.before.before.before.before.before.before.before.before.before.before.before.before.before.before in
     let a = s.args in
-    let w = sym c.before.before.before.before.before.before.before.before.before.before.before.before.judged.ensures ∙ c.before.before.before.before.before.before.before.before.before.before.before.if1.false in
-    let g = first_given_lem a.settings.now a.state.now w in
-    let p = sym (c.before.before.before.before.before.before.before.before.before.is_possible.ensures ∙ possible_here _ _ g (first_image a.settings.now a.state.now w)) ∙ not-false _ c.before.before.before.before.before.before.before.before.if2.false in
-    let u = unrefused a.settings.now a.state.now w p in
-    let o = sym (c.before.before.before.before.before.before.before.opened.ensures g) ∙ c.before.before.before.before.before.s.given.1 in
-    let h = state_held a.settings.now a.state.now (λ i. (c.before.before.before.before.before.before.before.before.before.before.before.before.before.before.slice-known.given i).fits) u in
-    let r = block-done a.settings.now a.state.now a.counts.now a.contact (both_good _ _ _ u o) in
-    let b = c.before.before.run-block.ensures in
+    let w = sym c.before.before.before.before.before.before.before.before.before.before.before.before.judged-why.ensures ∙ c.before.before.before.before.before.before.before.before.before.before.before.if-why-ne0.false in
+    let g = first_given_lem a.settings.now a.state-1.now w in
+    let p = sym (c.before.before.before.before.before.before.before.before.before.is_possible.ensures ∙ possible_here _ _ g (first_image a.settings.now a.state-1.now w)) ∙ not-false _ c.before.before.before.before.before.before.before.before.if-not-is_possible.false in
+    let u = unrefused a.settings.now a.state-1.now w p in
+    let o = sym (c.before.before.before.before.before.before.before.opened.ensures g) ∙ c.before.before.before.before.before.s-1.given.1 in
+    let h = state_held a.settings.now a.state-1.now (λ i. (c.before.before.before.before.before.before.before.before.before.before.before.before.before.before.slice_known-1.given i).fits) u in
+    let r = block-done a.settings.now a.state-1.now a.counts.now a.contact (both_good _ _ _ u o) in
+    let b = c.before.before.run_block.ensures in
     let same = same_block a.counts.now a.contact (sym (made_of _ _ o)) refl in
-    (b.0 _ h ∙ (λ i. block_number (same i).answer) ∙ r.0, b.1 _ h ∙ (λ i. image_of (same i).state) ∙ r.1)
+    (b.0 _ h ∙ (λ i. block_number (same i).answer) ∙ r.0, b.1 _ h ∙ (λ i. image_of (same i).state-1) ∙ r.1)
 
 pub pressgully_block_spec : {M : Type 1} → statement M
 pressgully_block_spec =

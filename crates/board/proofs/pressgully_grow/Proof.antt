@@ -14,87 +14,87 @@ use borrow.Author.Rules.{rules}
 use Rattle.board.proofs.pressgully_grow.Statement.{statement}
 use Rattle.board.proofs.pressgully_grow.Tie as tie
 
-length-refusal-requires : tie.Need-length-refusal-requires
+length-refusal-requires : tie.Need-length_refusal-requires
 length-refusal-requires c κs = search rules
 
-earlier-refusal-requires : tie.Need-earlier-refusal-requires
+earlier-refusal-requires : tie.Need-earlier_refusal-requires
 earlier-refusal-requires c κs = search rules
 
-images-refusal-requires : tie.Need-images-refusal-requires
+images-refusal-requires : tie.Need-images_refusal-bytes-requires
 images-refusal-requires c κs = search rules
 
-given-refusal-requires : tie.Need-given-refusal-requires
+given-refusal-requires : tie.Need-given_refusal-requires
 given-refusal-requires c κs = search rules
 
-images-refusal-requires-2 : tie.Need-images-refusal-requires-2
+images-refusal-requires-2 : tie.Need-images_refusal-why-requires
 images-refusal-requires-2 c κs = search rules
 
-cast-result : tie.Need-overflow-cast-result
+cast-result : tie.Need-overflow_cast-result
 cast-result c = search rules
 
-returns : tie.Need-returns
+returns : tie.Need-returns-then-why-ne0
 returns c =
     let a = c.before.before.before.before.before.before.before.before.before.args in
-    let e = c.before.images-refusal2.ensures ∙ (λ i. images_refusal (c.before.before.given-refusal.ensures i) ((c.before.before.before.images-refusal.ensures ∙ (λ j. images_refusal (c.before.before.before.before.before.length-refusal.ensures j) (c.before.before.before.before.earlier-refusal.ensures j))) i)) in
-    let r = grow_kept a.settings.now a.earlier.now a.state.now (λ k. c.if1.true (e ∙ k)) in
+    let e = c.before.images_refusal-why.ensures ∙ (λ i. images_refusal (c.before.before.given_refusal.ensures i) ((c.before.before.before.images_refusal-bytes.ensures ∙ (λ j. images_refusal (c.before.before.before.before.before.length_refusal.ensures j) (c.before.before.before.before.earlier_refusal.ensures j))) i)) in
+    let r = grow_kept a.settings.now a.earlier.now a.state-1.now (λ k. c.if-why-ne0.true (e ∙ k)) in
     (e ∙ r.0, r.1)
 
-is-possible-requires : tie.Need-is-possible-requires
+is-possible-requires : tie.Need-is_possible-requires
 is-possible-requires c κs = search rules
 
-returns-2 : tie.Need-returns-2
+returns-2 : tie.Need-returns-then-not-is_possible
 unfolding given_in
 returns-2 c =
     let a = c.before.before.before.before.before.before.before.before.before.before.before.args in
-    let e = c.before.before.before.images-refusal2.ensures ∙ (λ i. images_refusal (c.before.before.before.before.given-refusal.ensures i) ((c.before.before.before.before.before.images-refusal.ensures ∙ (λ j. images_refusal (c.before.before.before.before.before.before.before.length-refusal.ensures j) (c.before.before.before.before.before.before.earlier-refusal.ensures j))) i)) in
-    let w = sym e ∙ c.before.before.if1.false in
-    let p = sym (c.before.is_possible.ensures ∙ possible_here _ _ (grow-given a.settings.now a.earlier.now a.state.now w) (grow-earlier a.settings.now a.earlier.now a.state.now w)) ∙ not-true _ c.if2.true in
-    grow-ranges a.settings.now a.earlier.now a.state.now w p
+    let e = c.before.before.before.images_refusal-why.ensures ∙ (λ i. images_refusal (c.before.before.before.before.given_refusal.ensures i) ((c.before.before.before.before.before.images_refusal-bytes.ensures ∙ (λ j. images_refusal (c.before.before.before.before.before.before.before.length_refusal.ensures j) (c.before.before.before.before.before.before.earlier_refusal.ensures j))) i)) in
+    let w = sym e ∙ c.before.before.if-why-ne0.false in
+    let p = sym (c.before.is_possible.ensures ∙ possible_here _ _ (grow-given a.settings.now a.earlier.now a.state-1.now w) (grow-earlier a.settings.now a.earlier.now a.state-1.now w)) ∙ not-true _ c.if-not-is_possible.true in
+    grow-ranges a.settings.now a.earlier.now a.state-1.now w p
 
 opened-requires : tie.Need-opened-requires
 opened-requires c κs = search rules
 
-enum_told : tie.Need-enum-told
+enum_told : tie.Need-enum_told-1
 enum_told c = search rules
 
-returns-3 : tie.Need-returns-3
+returns-3 : tie.Need-returns-in-Refused
 unfolding given_in
 returns-3 c =
     let a = c.before.before.before.before.before.before.before.before.before.before.before.before.before.before.args in
-    let e = c.before.before.before.before.before.before.images-refusal2.ensures ∙ (λ i. images_refusal (c.before.before.before.before.before.before.before.given-refusal.ensures i) ((c.before.before.before.before.before.before.before.before.images-refusal.ensures ∙ (λ j. images_refusal (c.before.before.before.before.before.before.before.before.before.before.length-refusal.ensures j) (c.before.before.before.before.before.before.before.before.before.earlier-refusal.ensures j))) i)) in
-    let w = sym e ∙ c.before.before.before.before.before.if1.false in
-    let g = grow-given a.settings.now a.earlier.now a.state.now w in
-    let p = sym (c.before.before.before.before.is_possible.ensures ∙ possible_here _ _ g (grow-earlier a.settings.now a.earlier.now a.state.now w)) ∙ not-false _ c.before.before.before.if2.false in
-    grow-settings a.settings.now a.earlier.now a.state.now w p (sym (c.before.before.opened.ensures g) ∙ c.enum_told.given.1)
+    let e = c.before.before.before.before.before.before.images_refusal-why.ensures ∙ (λ i. images_refusal (c.before.before.before.before.before.before.before.given_refusal.ensures i) ((c.before.before.before.before.before.before.before.before.images_refusal-bytes.ensures ∙ (λ j. images_refusal (c.before.before.before.before.before.before.before.before.before.before.length_refusal.ensures j) (c.before.before.before.before.before.before.before.before.before.earlier_refusal.ensures j))) i)) in
+    let w = sym e ∙ c.before.before.before.before.before.if-why-ne0.false in
+    let g = grow-given a.settings.now a.earlier.now a.state-1.now w in
+    let p = sym (c.before.before.before.before.is_possible.ensures ∙ possible_here _ _ g (grow-earlier a.settings.now a.earlier.now a.state-1.now w)) ∙ not-false _ c.before.before.before.if-not-is_possible.false in
+    grow-settings a.settings.now a.earlier.now a.state-1.now w p (sym (c.before.before.opened.ensures g) ∙ c.enum_told-1.given.1)
 
-enum-told-2 : tie.Need-enum-told-2
+enum-told-2 : tie.Need-enum_told-in-Accepted
 enum-told-2 c = search rules
 
 clear-requires : tie.Need-clear-requires
 clear-requires c κs = search rules
 
-put-weighed-requires : tie.Need-put-weighed-requires
+put-weighed-requires : tie.Need-put_weighed-requires
 put-weighed-requires c κs = search rules
 
-put-batched-requires : tie.Need-put-batched-requires
+put-batched-requires : tie.Need-put_batched-requires
 put-batched-requires c κs = search rules
 
-same_length : tie.Need-same-length
+same_length : tie.Need-shape_of-state-in-Accepted
 same_length c = search rules
 
-returns-4 : tie.Need-returns-4
+returns-4 : tie.Need-returns-in-Accepted
 unfolding given_in open_state
 returns-4 c =
     let a = c.before.before.before.before.before.before.before.before.before.before.before.before.before.before.before.before.before.before.before.before.before.before.before.before.before.before.args in
-    let e = c.before.before.before.before.before.before.before.before.before.before.before.before.before.before.before.before.before.before.images-refusal2.ensures ∙ (λ i. images_refusal (c.before.before.before.before.before.before.before.before.before.before.before.before.before.before.before.before.before.before.before.given-refusal.ensures i) ((c.before.before.before.before.before.before.before.before.before.before.before.before.before.before.before.before.before.before.before.before.images-refusal.ensures ∙ (λ j. images_refusal (c.before.before.before.before.before.before.before.before.before.before.before.before.before.before.before.before.before.before.before.before.before.before.length-refusal.ensures j) (c.before.before.before.before.before.before.before.before.before.before.before.before.before.before.before.before.before.before.before.before.before.earlier-refusal.ensures j))) i)) in
-    let w = sym e ∙ c.before.before.before.before.before.before.before.before.before.before.before.before.before.before.before.before.before.if1.false in
-    let g = grow-given a.settings.now a.earlier.now a.state.now w in
-    let k = grow-earlier a.settings.now a.earlier.now a.state.now w in
-    let p = sym (c.before.before.before.before.before.before.before.before.before.before.before.before.before.before.before.before.is_possible.ensures ∙ possible_here _ _ g k) ∙ not-false _ c.before.before.before.before.before.before.before.before.before.before.before.before.before.before.before.if2.false in
-    let r = grow-good a.settings.now a.earlier.now a.state.now w _ p (sym (c.before.before.before.before.before.before.before.before.before.before.before.before.before.before.opened.ensures g) ∙ c.before.before.before.before.before.before.before.before.before.before.before.before.enum-told2.given.1) in
-    let z = grow-state a.settings.now a.earlier.now a.state.now w in
+    let e = c.before.before.before.before.before.before.before.before.before.before.before.before.before.before.before.before.before.before.images_refusal-why.ensures ∙ (λ i. images_refusal (c.before.before.before.before.before.before.before.before.before.before.before.before.before.before.before.before.before.before.before.given_refusal.ensures i) ((c.before.before.before.before.before.before.before.before.before.before.before.before.before.before.before.before.before.before.before.before.images_refusal-bytes.ensures ∙ (λ j. images_refusal (c.before.before.before.before.before.before.before.before.before.before.before.before.before.before.before.before.before.before.before.before.before.before.length_refusal.ensures j) (c.before.before.before.before.before.before.before.before.before.before.before.before.before.before.before.before.before.before.before.before.before.earlier_refusal.ensures j))) i)) in
+    let w = sym e ∙ c.before.before.before.before.before.before.before.before.before.before.before.before.before.before.before.before.before.if-why-ne0.false in
+    let g = grow-given a.settings.now a.earlier.now a.state-1.now w in
+    let k = grow-earlier a.settings.now a.earlier.now a.state-1.now w in
+    let p = sym (c.before.before.before.before.before.before.before.before.before.before.before.before.before.before.before.before.is_possible.ensures ∙ possible_here _ _ g k) ∙ not-false _ c.before.before.before.before.before.before.before.before.before.before.before.before.before.before.before.if-not-is_possible.false in
+    let r = grow-good a.settings.now a.earlier.now a.state-1.now w _ p (sym (c.before.before.before.before.before.before.before.before.before.before.before.before.before.before.opened.ensures g) ∙ c.before.before.before.before.before.before.before.before.before.before.before.before.enum_told-in-Accepted-1.given.1) in
+    let z = grow-state a.settings.now a.earlier.now a.state-1.now w in
     let cleared = held_as_bytes (c.before.before.before.before.before.before.before.before.before.before.clear.ensures ∙ ap (λ (n : ℕ). replicate n 0) z.2) open_holds in
-    (r.0, grown_bytes a.earlier.now z.0 (c.before.before.put-batched.ensures z.1 _ (c.before.before.before.before.before.before.put-weighed.ensures z.1 _ cleared)) ∙ r.1)
+    (r.0, grown_bytes a.earlier.now z.0 (c.before.before.put_batched.ensures z.1 _ (c.before.before.before.before.before.before.put_weighed.ensures z.1 _ cleared)) ∙ r.1)
 
 pub pressgully_grow_spec : {M : Type 1} → statement M
 pressgully_grow_spec =

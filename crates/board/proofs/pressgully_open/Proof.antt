@@ -6,52 +6,52 @@ use borrow.Author.Rules.{rules}
 use Rattle.board.proofs.pressgully_open.Statement.{statement}
 use Rattle.board.proofs.pressgully_open.Tie as tie
 
-given-refusal-requires : tie.Need-given-refusal-requires
+given-refusal-requires : tie.Need-given_refusal-requires
 given-refusal-requires c κs = search rules
 
-length-refusal-requires : tie.Need-length-refusal-requires
+length-refusal-requires : tie.Need-length_refusal-requires
 length-refusal-requires c κs = search rules
 
-images-refusal-requires : tie.Need-images-refusal-requires
+images-refusal-requires : tie.Need-images_refusal-why-requires
 images-refusal-requires c κs = search rules
 
-cast-result : tie.Need-overflow-cast-result
+cast-result : tie.Need-overflow_cast-result
 cast-result c = search rules
 
-returns : tie.Need-returns
+returns : tie.Need-returns-then-why-ne0
 returns c =
-    let e = c.before.images-refusal.ensures ∙ (λ i. images_refusal (c.before.before.before.given-refusal.ensures i) (c.before.before.length-refusal.ensures i)) in
-    let r = open_images _ _ (λ k. c.if1.true (e ∙ k)) in
+    let e = c.before.images_refusal-why.ensures ∙ (λ i. images_refusal (c.before.before.before.given_refusal.ensures i) (c.before.before.length_refusal.ensures i)) in
+    let r = open_images _ _ (λ k. c.if-why-ne0.true (e ∙ k)) in
     (e ∙ r.0, r.1)
 
 opened-requires : tie.Need-opened-requires
 opened-requires c κs = search rules
 
-enum_told : tie.Need-enum-told
+enum_told : tie.Need-enum_told-1
 enum_told c = search rules
 
-returns-2 : tie.Need-returns-2
+returns-2 : tie.Need-returns-in-Refused
 returns-2 c =
     let a = c.before.before.before.before.before.before.before.before.before.args in
-    let e = c.before.before.before.before.images-refusal.ensures ∙ (λ i. images_refusal (c.before.before.before.before.before.before.given-refusal.ensures i) (c.before.before.before.before.before.length-refusal.ensures i)) in
-    let w = sym e ∙ c.before.before.before.if1.false in
-    open_settings a.settings.now a.state.now w (sym (c.before.before.opened.ensures (open_given a.settings.now a.state.now w)) ∙ c.enum_told.given.1)
+    let e = c.before.before.before.before.images_refusal-why.ensures ∙ (λ i. images_refusal (c.before.before.before.before.before.before.given_refusal.ensures i) (c.before.before.before.before.before.length_refusal.ensures i)) in
+    let w = sym e ∙ c.before.before.before.if-why-ne0.false in
+    open_settings a.settings.now a.state-1.now w (sym (c.before.before.opened.ensures (open_given a.settings.now a.state-1.now w)) ∙ c.enum_told-1.given.1)
 
-enum-told-2 : tie.Need-enum-told-2
+enum-told-2 : tie.Need-enum_told-in-Accepted
 enum-told-2 c = search rules
 
 clear-requires : tie.Need-clear-requires
 clear-requires c κs = search rules
 
-same_length : tie.Need-same-length
+same_length : tie.Need-shape_of-state-in-Accepted
 same_length c = search rules
 
-returns-3 : tie.Need-returns-3
+returns-3 : tie.Need-returns-in-Accepted
 returns-3 c =
     let a = c.before.before.before.before.before.before.before.before.before.before.before.before.before.args in
-    let e = c.before.before.before.before.before.before.before.before.images-refusal.ensures ∙ (λ i. images_refusal (c.before.before.before.before.before.before.before.before.before.before.given-refusal.ensures i) (c.before.before.before.before.before.before.before.before.before.length-refusal.ensures i)) in
-    let w = sym e ∙ c.before.before.before.before.before.before.before.if1.false in
-    let r = open_good a.settings.now a.state.now _ w (sym (c.before.before.before.before.before.before.opened.ensures (open_given a.settings.now a.state.now w)) ∙ c.before.before.before.before.enum-told2.given.1) in
+    let e = c.before.before.before.before.before.before.before.before.images_refusal-why.ensures ∙ (λ i. images_refusal (c.before.before.before.before.before.before.before.before.before.before.given_refusal.ensures i) (c.before.before.before.before.before.before.before.before.before.length_refusal.ensures i)) in
+    let w = sym e ∙ c.before.before.before.before.before.before.before.if-why-ne0.false in
+    let r = open_good a.settings.now a.state-1.now _ w (sym (c.before.before.before.before.before.before.opened.ensures (open_given a.settings.now a.state-1.now w)) ∙ c.before.before.before.before.enum_told-in-Accepted-1.given.1) in
     (r.0, c.before.before.clear.ensures ∙ r.1)
 
 pub pressgully_open_spec : {M : Type 1} → statement M

@@ -13,94 +13,94 @@ use borrow.Author.Rules.{rules}
 use Rattle.board.proofs.pressgully_tick.Statement.{statement}
 use Rattle.board.proofs.pressgully_tick.Tie as tie
 
-judged-requires : tie.Need-judged-requires
+judged-requires : tie.Need-judged-why-requires
 judged-requires c κs = search rules
 
-cast-result : tie.Need-overflow-cast-result
+cast-result : tie.Need-overflow_cast-result
 cast-result c = search rules
 
-same_length : tie.Need-same-length
+same_length : tie.Need-shape_of-state-then-why-ne0
 same_length c = search rules
 
-returns : tie.Need-returns
+returns : tie.Need-returns-then-why-ne0
 returns c =
     let a = c.before.before.before.before.before.before.before.args in
-    let e = c.before.judged.ensures in
-    let r = tick_kept a.settings.now a.state.now a.count a.contact a.request a.points.now a.answer.now _ (by_bytes _ _ (λ k. c.if1.true (e ∙ k))) (λ k. c.if1.true (e ∙ k)) in
+    let e = c.before.judged-why.ensures in
+    let r = tick_kept a.settings.now a.state-1.now a.count a.contact a.request a.points.now a.answer-1.now _ (by_bytes _ _ (λ k. c.if-why-ne0.true (e ∙ k))) (λ k. c.if-why-ne0.true (e ∙ k)) in
     (e ∙ r.0, (r.1, r.2))
 
-is-possible-requires : tie.Need-is-possible-requires
+is-possible-requires : tie.Need-is_possible-requires
 is-possible-requires c κs = search rules
 
-same-length-2 : tie.Need-same-length-2
+same-length-2 : tie.Need-shape_of-state-then-not-is_possible
 same-length-2 c = search rules
 
-returns-2 : tie.Need-returns-2
+returns-2 : tie.Need-returns-then-not-is_possible
 unfolding given_in
 returns-2 c =
     let a = c.before.before.before.before.before.before.before.before.before.before.args in
-    let w = sym c.before.before.before.before.judged.ensures ∙ c.before.before.before.if1.false in
-    let p = sym (c.before.is_possible.ensures ∙ possible_here _ _ (first_given_lem a.settings.now a.state.now w) (first_image a.settings.now a.state.now w)) ∙ not-true _ c.if2.true in
-    let r = tick_kept a.settings.now a.state.now a.count a.contact a.request a.points.now a.answer.now 21 (by_ranges a.settings.now a.state.now w p) (λ k. absurd (omega arith)) in
+    let w = sym c.before.before.before.before.judged-why.ensures ∙ c.before.before.before.if-why-ne0.false in
+    let p = sym (c.before.is_possible.ensures ∙ possible_here _ _ (first_given_lem a.settings.now a.state-1.now w) (first_image a.settings.now a.state-1.now w)) ∙ not-true _ c.if-not-is_possible.true in
+    let r = tick_kept a.settings.now a.state-1.now a.count a.contact a.request a.points.now a.answer-1.now 21 (by_ranges a.settings.now a.state-1.now w p) (λ k. absurd (omega arith)) in
     (r.0, (r.1, r.2))
 
 opened-requires : tie.Need-opened-requires
 opened-requires c κs = search rules
 
-enum_told : tie.Need-enum-told
+enum_told : tie.Need-enum_told-1
 enum_told c = search rules
 
-same-length-3 : tie.Need-same-length-3
+same-length-3 : tie.Need-shape_of-state-in-Refused
 same-length-3 c = search rules
 
-returns-3 : tie.Need-returns-3
+returns-3 : tie.Need-returns-in-Refused
 unfolding given_in
 returns-3 c =
     let a = c.before.before.before.before.before.before.before.before.before.before.before.before.before.args in
-    let w = sym c.before.before.before.before.before.before.before.judged.ensures ∙ c.before.before.before.before.before.before.if1.false in
-    let g = first_given_lem a.settings.now a.state.now w in
-    let p = sym (c.before.before.before.before.is_possible.ensures ∙ possible_here _ _ g (first_image a.settings.now a.state.now w)) ∙ not-false _ c.before.before.before.if2.false in
-    let o = sym (c.before.before.opened.ensures g) ∙ c.enum_told.given.1 in
-    let r = tick_kept a.settings.now a.state.now a.count a.contact a.request a.points.now a.answer.now 10 (both_settings _ _ (unrefused a.settings.now a.state.now w p) o) (λ k. absurd (omega arith)) in
+    let w = sym c.before.before.before.before.before.before.before.judged-why.ensures ∙ c.before.before.before.before.before.before.if-why-ne0.false in
+    let g = first_given_lem a.settings.now a.state-1.now w in
+    let p = sym (c.before.before.before.before.is_possible.ensures ∙ possible_here _ _ g (first_image a.settings.now a.state-1.now w)) ∙ not-false _ c.before.before.before.if-not-is_possible.false in
+    let o = sym (c.before.before.opened.ensures g) ∙ c.enum_told-1.given.1 in
+    let r = tick_kept a.settings.now a.state-1.now a.count a.contact a.request a.points.now a.answer-1.now 10 (both_settings _ _ (unrefused a.settings.now a.state-1.now w p) o) (λ k. absurd (omega arith)) in
     (r.0, (r.1, r.2))
 
-enum-known-s : tie.Need-enum-known-s
+enum-known-s : tie.Need-enum_known-s
 enum-known-s c = search rules
 
-is-request-requires : tie.Need-is-request-requires
+is-request-requires : tie.Need-is_request-known-requires
 is-request-requires c κs = search rules
 
-request-by-requires : tie.Need-request-by-requires
+request-by-requires : tie.Need-request_by-asked-requires
 request-by-requires c κs = search rules
 
-run-tick-requires : tie.Need-run-tick-requires
+run-tick-requires : tie.Need-run_tick-requires
 run-tick-requires c κs = search rules
 
-same-length-4 : tie.Need-same-length-4
+same-length-4 : tie.Need-shape_of-state-in-Accepted
 same-length-4 c = search rules
 
-same-length-5 : tie.Need-same-length-5
+same-length-5 : tie.Need-shape_of-answer-in-Accepted
 same-length-5 c = search rules
 
-returns-4 : tie.Need-returns-4
+returns-4 : tie.Need-returns-in-Accepted
 unfolding given_in tick_by
 returns-4 c =
     let s = c.before.before.before.before.before.before.before.before.before.before.before.before.before.before.before.before.before.before.before.before.before.before.before in
     let a = s.args in
-    let w = sym c.before.before.before.before.before.before.before.before.before.before.before.before.before.before.before.before.before.judged.ensures ∙ c.before.before.before.before.before.before.before.before.before.before.before.before.before.before.before.before.if1.false in
-    let g = first_given_lem a.settings.now a.state.now w in
-    let p = sym (c.before.before.before.before.before.before.before.before.before.before.before.before.before.before.is_possible.ensures ∙ possible_here _ _ g (first_image a.settings.now a.state.now w)) ∙ not-false _ c.before.before.before.before.before.before.before.before.before.before.before.before.before.if2.false in
-    let u = unrefused a.settings.now a.state.now w p in
-    let o = sym (c.before.before.before.before.before.before.before.before.before.before.before.before.opened.ensures g) ∙ c.before.before.before.before.before.before.before.before.before.before.s.given.1 in
-    let h = state_held a.settings.now a.state.now (λ i. (c.before.before.before.before.before.before.before.before.before.before.before.before.before.before.before.before.before.before.before.before.before.slice-known.given i).fits) u in
-    let r = tick-done a.settings.now a.state.now a.count a.contact a.request a.points.now a.answer.now (both_good _ _ _ u o) in
-    let k = c.before.before.before.before.run-tick.ensures in
-    let same = same_tick (sym (made_of _ _ o)) refl (same_input a.contact (arg s.ranges.count).read c.before.before.before.before.before.before.before.request-by.ensures) in
-    let told = same_told c.before.before.before.before.before.before.before.before.is-request.ensures same in (
-      k.0 _ h ∙ (λ i. if_room a.answer.now (told i) 14) ∙ r.0,
+    let w = sym c.before.before.before.before.before.before.before.before.before.before.before.before.before.before.before.before.before.judged-why.ensures ∙ c.before.before.before.before.before.before.before.before.before.before.before.before.before.before.before.before.if-why-ne0.false in
+    let g = first_given_lem a.settings.now a.state-1.now w in
+    let p = sym (c.before.before.before.before.before.before.before.before.before.before.before.before.before.before.is_possible.ensures ∙ possible_here _ _ g (first_image a.settings.now a.state-1.now w)) ∙ not-false _ c.before.before.before.before.before.before.before.before.before.before.before.before.before.if-not-is_possible.false in
+    let u = unrefused a.settings.now a.state-1.now w p in
+    let o = sym (c.before.before.before.before.before.before.before.before.before.before.before.before.opened.ensures g) ∙ c.before.before.before.before.before.before.before.before.before.before.s-1.given.1 in
+    let h = state_held a.settings.now a.state-1.now (λ i. (c.before.before.before.before.before.before.before.before.before.before.before.before.before.before.before.before.before.before.before.before.before.slice_known-1.given i).fits) u in
+    let r = tick-done a.settings.now a.state-1.now a.count a.contact a.request a.points.now a.answer-1.now (both_good _ _ _ u o) in
+    let k = c.before.before.before.before.run_tick.ensures in
+    let same = same_tick (sym (made_of _ _ o)) refl (same_input a.contact (arg s.ranges.count).read c.before.before.before.before.before.before.before.request_by-asked.ensures) in
+    let told = same_told c.before.before.before.before.before.before.before.before.is_request-known.ensures same in (
+      k.0 _ h ∙ (λ i. if_room a.answer-1.now (told i) 14) ∙ r.0,
       (
-        k.1.0 _ h ∙ (λ i. if_room a.answer.now (image_of (same i).state) a.state.now) ∙ r.1,
-        k.1.1 _ h ∙ (λ i. if_room a.answer.now (answer_buffer (told i) 0 (same i).answer a.answer.now) a.answer.now) ∙ r.2,
+        k.1.0 _ h ∙ (λ i. if_room a.answer-1.now (image_of (same i).state-1) a.state-1.now) ∙ r.1,
+        k.1.1 _ h ∙ (λ i. if_room a.answer-1.now (answer_buffer (told i) 0 (same i).answer-1 a.answer-1.now) a.answer-1.now) ∙ r.2,
       ),
     )
 

@@ -6,34 +6,34 @@ use borrow.Author.Rules.{rules}
 use Rattle.board.proofs.put_batched.Statement.{statement}
 use Rattle.board.proofs.put_batched.Tie as tie
 
-setpoints-at-requires : tie.Need-setpoints-at-requires
+setpoints-at-requires : tie.Need-setpoints_at-requires
 setpoints-at-requires c κs = search rules
 
-put-setpoints-requires : tie.Need-put-setpoints-requires
+put-setpoints-requires : tie.Need-put_setpoints-requires
 put-setpoints-requires c κs = search rules
 
-sequence-at-requires : tie.Need-sequence-at-requires
+sequence-at-requires : tie.Need-sequence_at-requires
 sequence-at-requires c κs = search rules
 
-put-sequence-requires : tie.Need-put-sequence-requires
+put-sequence-requires : tie.Need-put_sequence-requires
 put-sequence-requires c κs = search rules
 
-totals-at-requires : tie.Need-totals-at-requires
+totals-at-requires : tie.Need-totals_at-requires
 totals-at-requires c κs = search rules
 
-put-totals-requires : tie.Need-put-totals-requires
+put-totals-requires : tie.Need-put_totals-requires
 put-totals-requires c κs = search rules
 
-same_length : tie.Need-same-length
+same_length : tie.Need-shape_of-state
 same_length c = search rules
 
 returns : tie.Need-returns
 returns c k st h =
-    let setpoints = read_earlier (λ (t : State). t.setpoints) _ c.before.before.before.before.before.before.before.before.before.before.before.before.before.setpoints-at.ensures k in
-    let sequence = read_earlier (λ (t : State). t.sequence) _ c.before.before.before.before.before.before.before.before.sequence-at.ensures k in
-    let totals = read_earlier (λ (t : State). t.totals) _ c.before.before.before.totals-at.ensures k in
+    let setpoints = read_earlier (λ (t : State). t.setpoints) _ c.before.before.before.before.before.before.before.before.before.before.before.before.before.setpoints_at.ensures k in
+    let sequence = read_earlier (λ (t : State). t.sequence) _ c.before.before.before.before.before.before.before.before.sequence_at.ensures k in
+    let totals = read_earlier (λ (t : State). t.totals) _ c.before.before.before.totals_at.ensures k in
     held_as (λ i. with_totals (with_sequence (with_setpoints st (setpoints i)) (sequence i)) (totals i))
-    (c.before.before.put-totals.ensures.0 _ (c.before.before.before.before.before.before.before.put-sequence.ensures.0 _ (c.before.before.before.before.before.before.before.before.before.before.before.before.put-setpoints.ensures.0 st h)))
+    (c.before.before.put_totals.ensures.0 _ (c.before.before.before.before.before.before.before.put_sequence.ensures.0 _ (c.before.before.before.before.before.before.before.before.before.before.before.before.put_setpoints.ensures.0 st h)))
 
 pub put_batched_spec : {M : Type 1} → statement M
 put_batched_spec =

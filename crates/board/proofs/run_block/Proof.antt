@@ -31,23 +31,23 @@ invariant_loop s counts contact state₀ i₀ state i = (i ≤ length counts) ×
 abbrev decreases_loop : tie.decreases_loop
 decreases_loop s counts contact state₀ i₀ state i = length counts - i
 
-returns : tie.Need-returns invariant_loop decreases_loop
+returns : tie.Need-returns-then-counts-gt-BLOCK_LIMIT invariant_loop decreases_loop
 unfolding block_of
 returns c =
     let a = c.before.before.args in
-    let long = lt-leb (length a.counts.now) block_limit (omega (arith, c.if1.true)) in
+    let long = lt-leb (length a.counts.now) block_limit (omega (arith, c.if-counts-gt-BLOCK_LIMIT.true)) in
     ((λ st h. simp long), (λ st h. simp long (sym h.image)))
 
-loop-holds : tie.Need-loop-init invariant_loop decreases_loop
+loop-holds : tie.Need-loop-i-init invariant_loop decreases_loop
 loop-holds c = (omega arith, (λ st h. h), refl)
 
-mul-count : tie.Need-overflow-mul-count invariant_loop decreases_loop
+mul-count : tie.Need-offset_bounds-counts-i invariant_loop decreases_loop
 mul-count c = search rules
 
-shared-slice-copy-out-count : tie.Need-shared-slice-copy-out-count invariant_loop decreases_loop
+shared-slice-copy-out-count : tie.Need-bounds-counts-i invariant_loop decreases_loop
 shared-slice-copy-out-count c = search rules
 
-enter-requires : tie.Need-enter-requires invariant_loop decreases_loop
+enter-requires : tie.Need-enter-x-requires invariant_loop decreases_loop
 enter-requires c κs = search rules
 
 track-requires : tie.Need-track-requires invariant_loop decreases_loop
@@ -56,41 +56,41 @@ track-requires c κs = search rules
 step-requires : tie.Need-step-requires invariant_loop decreases_loop
 step-requires c κs = search rules
 
-add-i : tie.Need-overflow-add-i invariant_loop decreases_loop
+add-i : tie.Need-overflow_add-i invariant_loop decreases_loop
 add-i c = search rules
 
-loop-less : tie.Need-loop-smaller invariant_loop decreases_loop
+loop-less : tie.Need-loop-i-smaller invariant_loop decreases_loop
 loop-less c = search rules
 
-loop-again : tie.Need-loop-preserved invariant_loop decreases_loop
+loop-again : tie.Need-loop-i-preserved invariant_loop decreases_loop
 unfolding count_in
 loop-again c =
     let w = c.before.before.before.before.before.before.before.before.before.before.before.before.before.before in
     let a = w.before.before.before.args in
-    let within = c.before.before.before.before.before.before.before.before.before.before.before.before.before.loop-test.true in
-    let e = simp (to_z-of_z {w = w32} {z = get_or a.counts.now w.loop.i (pos 0)} (record { sfits = c.before.before.before.before.before.before.before.before.before.before.before.before.count.given })) at c.before.before.before.before.before.before.before.before.before.before.enter.ensures in (
+    let within = c.before.before.before.before.before.before.before.before.before.before.before.before.before.loop-i-test.true in
+    let e = simp (to_z-of_z {w = w32} {z = get_or a.counts.now w.loop-i.i (pos 0)} (record { sfits = c.before.before.before.before.before.before.before.before.before.before.before.before.count-1.given })) at c.before.before.before.before.before.before.before.before.before.before.enter-x.ensures in (
       omega (arith, within),
       (λ st h.
-          let g = w.loop.invariant.1 st h in
+          let g = w.loop-i.invariant.1 st h in
           let h1 = e.0 _ g in
           let h2 = c.before.before.before.before.before.before.track.ensures _ h1 in
           let h3 = c.before.before.step.ensures _ h2 in
-          held_as (unasked-next a.s _ _ a.contact _ (e.1 _ g) ∙ sym (fold_more (count_in a.s a.contact) st a.counts.now w.loop.i (pos 0) within)) h3),
-      search (rules, c.before.before.step, c.before.before.before.before.before.before.track, c.before.before.before.before.before.before.before.before.before.before.enter),
+          held_as (unasked-next a.s _ _ a.contact _ (e.1 _ g) ∙ sym (fold_more (count_in a.s a.contact) st a.counts.now w.loop-i.i (pos 0) within)) h3),
+      search (rules, c.before.before.step, c.before.before.before.before.before.before.track, c.before.before.before.before.before.before.before.before.before.before.enter-x),
     )
 
-same_length : tie.Need-same-length invariant_loop decreases_loop
+same_length : tie.Need-shape_of-state invariant_loop decreases_loop
 same_length c = search rules
 
-returns-2 : tie.Need-returns-2 invariant_loop decreases_loop
+returns-2 : tie.Need-returns invariant_loop decreases_loop
 unfolding block_of
 returns-2 c =
     let w = c.before in
     let a = w.before.before.before.args in
-    let few = le-leb (length a.counts.now) block_limit w.before.if1.false in
-    let full : length a.counts.now ≤ w.loop.i = omega arith in (
+    let few = le-leb (length a.counts.now) block_limit w.before.if-counts-gt-BLOCK_LIMIT.false in
+    let full : length a.counts.now ≤ w.loop-i.i = omega arith in (
       (λ st h. simp few),
-      (λ st h. simp few (sym (w.loop.invariant.1 st h).image ∙ ap (λ (l : List ℤ). image_of (foldl (count_in a.s a.contact) st l)) (take_all w.loop.i a.counts.now full))),
+      (λ st h. simp few (sym (w.loop-i.invariant.1 st h).image ∙ ap (λ (l : List ℤ). image_of (foldl (count_in a.s a.contact) st l)) (take_all w.loop-i.i a.counts.now full))),
     )
 
 pub run_block_spec : {M : Type 1} → statement M

@@ -20,89 +20,89 @@ use borrow.Author.Rules.{rules}
 use Rattle.board.proofs.run_tick.Statement.{statement}
 use Rattle.board.proofs.run_tick.Tie as tie
 
-abbrev start : tie.After-slice-known9 → tie.Start
+abbrev start : tie.After-slice_known-9-1 → tie.Start
 start c = c.before.before.before.before.before.before.before.before.before.before.before.before.before.before.before.before.before.before.before.before.before.before.before.before.before.before.before.before.before.before.before.before.before.before.before.before.before.before.before
 
-abbrev asked : tie.After-slice-known9 → Input
+abbrev asked : tie.After-slice_known-9-1 → Input
 asked c = input_of (start c).args.count (start c).args.contact (start c).args.request
 
 -- what the steps leave, of a state that the buffer holds
-done : (c : tie.After-slice-known9) (st : State) → Holds (start c).args.state.now st
-    → Ran (start c).args.s st (asked c) c.before.before.before.before.before.before.before.before.before.before.before.before.before.before.before.before.before.before.before.before.before.before.before.before.before.before.before.before.before.before.ruled.result c.before.before.before.before.before.told-by.result 0 (start c).args.answer.now c.before.before.before.before.before.before.before.before.step.new.1.1.1.0 c.before.before.answer2.new.1.1.1.1.1.1.0
+done : (c : tie.After-slice_known-9-1) (st : State) → Holds (start c).args.state-1.now st
+    → Ran (start c).args.s st (asked c) c.before.before.before.before.before.before.before.before.before.before.before.before.before.before.before.before.before.before.before.before.before.before.before.before.before.before.before.before.before.before.ruled-outcome.result c.before.before.before.before.before.told_by-told.result 0 (start c).args.answer-1.now c.before.before.before.before.before.before.before.before.step.new.1.1.1.0 c.before.before.answer.new.1.1.1.1.1.1.0
 done c st h =
-    let e = simp (to_z-of_z (start c).ranges.count) at c.before.before.before.before.before.before.before.before.before.before.before.before.before.before.before.before.before.before.before.before.before.before.before.before.before.before.before.before.before.before.before.before.before.before.enter.ensures in
+    let e = simp (to_z-of_z (start c).ranges.count) at c.before.before.before.before.before.before.before.before.before.before.before.before.before.before.before.before.before.before.before.before.before.before.before.before.before.before.before.before.before.before.before.before.before.before.enter-x.ensures in
     let h1 = e.0 st h in
-    let h2 = held_as (batch_granted _ _ _) (c.before.before.before.before.before.before.before.before.before.before.before.before.before.before.before.before.before.before.before.before.settle-batch.ensures _ (c.before.before.before.before.before.before.before.before.before.before.before.before.before.before.before.before.before.before.before.before.before.before.before.before.before.before.settle.ensures.0 _ h1)) in
-    let h3 = keyed_as _ _ _ c.before.before.before.before.before.before.before.before.before.before.before.before.before.before.before.is-keyed.ensures (c.before.before.before.before.before.before.before.before.before.before.before.before.before.track.ensures _ h2) in
+    let h2 = held_as (batch_granted _ _ _) (c.before.before.before.before.before.before.before.before.before.before.before.before.before.before.before.before.before.before.before.before.settle_batch.ensures _ (c.before.before.before.before.before.before.before.before.before.before.before.before.before.before.before.before.before.before.before.before.before.before.before.before.before.before.settle.ensures.0 _ h1)) in
+    let h3 = keyed_as _ _ _ c.before.before.before.before.before.before.before.before.before.before.before.before.before.before.before.is_keyed.ensures (c.before.before.before.before.before.before.before.before.before.before.before.before.before.track.ensures _ h2) in
     let h4 = held_on _ _ _ c.before.before.before.before.before.before.before.before.before.before.is_held_lem.ensures (c.before.before.before.before.before.before.before.before.step.ensures _ h3) in
-    leaves (start c).args.s st (asked c) c.before.before.before.before.before.before.before.before.before.before.before.before.before.before.before.before.before.before.before.before.before.before.before.before.before.before.before.before.before.before.before.before.before.before.enter.result c.before.before.before.before.before.before.before.before.before.before.before.before.before.before.before.before.before.before.before.before.before.before.before.before.before.before.before.before.before.before.ruled.result c.before.before.before.before.before.before.before.before.before.before.before.before.before.before.before.before.before.before.before.before.before.before.before.before.before.before.before.before.before.granted.result c.before.before.before.before.before.before.before.before.before.before.before.before.before.before.before.before.again.result c.before.before.before.before.before.told-by.result 0
-    (start c).args.answer.now c.before.before.before.before.before.before.before.before.step.new.1.1.1.0 c.before.before.before.before.before.before.before.before.before.before.before.before.before.before.before.before.before.before.before.before.before.before.before.before.before.before.settle.new.1.1.1.0 c.before.before.answer2.new.1.1.1.1.1.1.0
-    (e.1 st h) (c.before.before.before.before.before.before.before.before.before.before.before.before.before.before.before.before.before.before.before.before.before.before.before.before.before.before.before.before.before.before.ruled.ensures _ h1) c.before.before.before.before.before.before.before.before.before.before.before.before.before.before.before.before.before.before.before.before.before.before.before.before.before.before.before.before.before.granted.ensures (c.before.before.before.before.before.before.before.before.before.before.before.before.before.before.before.before.again.ensures _ h2) h4 (c.before.before.before.before.before.before.before.before.before.before.before.before.before.before.before.before.before.before.before.before.before.before.before.before.before.before.settle.ensures.1 _ h1 ∙ ap (λ (d : Closed). closed_put d (start c).args.answer.now) (batch_closed _ _ _)) (c.before.before.answer2.ensures _ h4)
+    leaves (start c).args.s st (asked c) c.before.before.before.before.before.before.before.before.before.before.before.before.before.before.before.before.before.before.before.before.before.before.before.before.before.before.before.before.before.before.before.before.before.before.enter-x.result c.before.before.before.before.before.before.before.before.before.before.before.before.before.before.before.before.before.before.before.before.before.before.before.before.before.before.before.before.before.before.ruled-outcome.result c.before.before.before.before.before.before.before.before.before.before.before.before.before.before.before.before.before.before.before.before.before.before.before.before.before.before.before.before.before.granted-done.result c.before.before.before.before.before.before.before.before.before.before.before.before.before.before.before.before.again-x.result c.before.before.before.before.before.told_by-told.result 0
+    (start c).args.answer-1.now c.before.before.before.before.before.before.before.before.step.new.1.1.1.0 c.before.before.before.before.before.before.before.before.before.before.before.before.before.before.before.before.before.before.before.before.before.before.before.before.before.before.settle.new.1.1.1.0 c.before.before.answer.new.1.1.1.1.1.1.0
+    (e.1 st h) (c.before.before.before.before.before.before.before.before.before.before.before.before.before.before.before.before.before.before.before.before.before.before.before.before.before.before.before.before.before.before.ruled-outcome.ensures _ h1) c.before.before.before.before.before.before.before.before.before.before.before.before.before.before.before.before.before.before.before.before.before.before.before.before.before.before.before.before.before.granted-done.ensures (c.before.before.before.before.before.before.before.before.before.before.before.before.before.before.before.before.again-x.ensures _ h2) h4 (c.before.before.before.before.before.before.before.before.before.before.before.before.before.before.before.before.before.before.before.before.before.before.before.before.before.before.settle.ensures.1 _ h1 ∙ ap (λ (d : Closed). closed_put d (start c).args.answer-1.now) (batch_closed _ _ _)) (c.before.before.answer.ensures _ h4)
 
-told : (c : tie.After-slice-known9) (st : State) → Holds (start c).args.state.now st
-    → c.before.before.before.before.before.told-by.result ≡ told_of (start c).args.known (tick_of (start c).args.s st (asked c))
+told : (c : tie.After-slice_known-9-1) (st : State) → Holds (start c).args.state-1.now st
+    → c.before.before.before.before.before.told_by-told.result ≡ told_of (start c).args.known (tick_of (start c).args.s st (asked c))
 unfolding told_of
 told c st h =
-    c.before.before.before.before.before.told-by.ensures ∙ sym (λ i. cond (start c).args.known (outcome_number ((done c st h).outcome i)) 13)
+    c.before.before.before.before.before.told_by-told.ensures ∙ sym (λ i. cond (start c).args.known (outcome_number ((done c st h).outcome i)) 13)
 
-returns : tie.Need-returns
+returns : tie.Need-returns-then-answer-lt-ANSWER_LENGTH
 returns c =
-    let no = lt-leb answer_length (length c.before.before.before.args.answer.now) c.if1.true in
+    let no = lt-leb answer_length (length c.before.before.before.args.answer-1.now) c.if-answer-lt-ANSWER_LENGTH.true in
     ((λ st h. simp no), ((λ st h. simp no), (λ st h. simp no)))
 
-enter-requires : tie.Need-enter-requires
+enter-requires : tie.Need-enter-x-requires
 enter-requires c κs = search rules
 
-ruled-requires : tie.Need-ruled-requires
+ruled-requires : tie.Need-ruled-outcome-requires
 ruled-requires c κs = search rules
 
-granted-requires : tie.Need-granted-requires
+granted-requires : tie.Need-granted-done-requires
 granted-requires c κs = search rules
 
 settle-requires : tie.Need-settle-requires
 settle-requires c κs = search rules
 
-settle-batch-requires : tie.Need-settle-batch-requires
+settle-batch-requires : tie.Need-settle_batch-requires
 settle-batch-requires c κs = search rules
 
-again-requires : tie.Need-again-requires
+again-requires : tie.Need-again-x-requires
 again-requires c κs = search rules
 
-is-keyed-requires : tie.Need-is-keyed-requires
+is-keyed-requires : tie.Need-is_keyed-requires
 is-keyed-requires c κs = search rules
 
 track-requires : tie.Need-track-requires
 track-requires c κs = search rules
 
-is-held-requires : tie.Need-is-held-requires
+is-held-requires : tie.Need-is_held-requires
 is-held-requires c κs = search rules
 
 step-requires : tie.Need-step-requires
 step-requires c κs = search rules
 
-told-by-requires : tie.Need-told-by-requires
+told-by-requires : tie.Need-told_by-told-requires
 told-by-requires c κs = search rules
 
 answer-requires : tie.Need-answer-requires
 answer-requires c κs = search rules
 
-cast-result : tie.Need-overflow-cast-result
+cast-result : tie.Need-overflow_cast-result
 cast-result c = search rules
 
-same_length : tie.Need-same-length
-same_length c = search (rules, c.before.before.before.before.before.before.before.before.step, c.before.before.before.before.before.before.before.before.before.before.before.before.before.track, c.before.before.before.before.before.before.before.before.before.before.before.before.before.before.before.before.before.before.before.before.settle-batch, c.before.before.before.before.before.before.before.before.before.before.before.before.before.before.before.before.before.before.before.before.before.before.before.before.before.before.settle, c.before.before.before.before.before.before.before.before.before.before.before.before.before.before.before.before.before.before.before.before.before.before.before.before.before.before.before.before.before.before.before.before.before.before.enter)
+same_length : tie.Need-shape_of-state
+same_length c = search (rules, c.before.before.before.before.before.before.before.before.step, c.before.before.before.before.before.before.before.before.before.before.before.before.before.track, c.before.before.before.before.before.before.before.before.before.before.before.before.before.before.before.before.before.before.before.before.settle_batch, c.before.before.before.before.before.before.before.before.before.before.before.before.before.before.before.before.before.before.before.before.before.before.before.before.before.before.settle, c.before.before.before.before.before.before.before.before.before.before.before.before.before.before.before.before.before.before.before.before.before.before.before.before.before.before.before.before.before.before.before.before.before.before.enter-x)
 
-same-length-2 : tie.Need-same-length-2
+same-length-2 : tie.Need-shape_of-answer
 same-length-2 c = search rules
 
-returns-2 : tie.Need-returns-2
+returns-2 : tie.Need-returns
 returns-2 c =
     let a = (start c).args in
-    let room = c.before.before.before.before.before.before.before.before.before.before.before.before.before.before.before.before.before.before.before.before.before.before.before.before.before.before.before.before.before.before.before.before.before.before.before.before.if1.false in (
-      (λ st h. told c st h ∙ is_room a.answer.now _ 14 room),
+    let room = c.before.before.before.before.before.before.before.before.before.before.before.before.before.before.before.before.before.before.before.before.before.before.before.before.before.before.before.before.before.before.before.before.before.before.before.before.if-answer-lt-ANSWER_LENGTH.false in (
+      (λ st h. told c st h ∙ is_room a.answer-1.now _ 14 room),
       (
-        (λ st h. (done c st h).next ∙ is_room a.answer.now _ a.state.now room),
-        (λ st h. (done c st h).shown ∙ (λ i. answer_buffer (told c st h i) 0 (tick_of a.s st (asked c)).answer a.answer.now) ∙ is_room a.answer.now _ a.answer.now room),
+        (λ st h. (done c st h).next ∙ is_room a.answer-1.now _ a.state-1.now room),
+        (λ st h. (done c st h).shown ∙ (λ i. answer_buffer (told c st h i) 0 (tick_of a.s st (asked c)).answer-1 a.answer-1.now) ∙ is_room a.answer-1.now _ a.answer-1.now room),
       ),
     )
 

@@ -22,136 +22,136 @@ use Rattle.outline.specs.Steps.{parts_of, step_idle, step-on, step_back, step-fi
 use Rattle.controller.proofs.tick.Statement.{statement}
 use Rattle.controller.proofs.tick.Tie as tie
 
-raw_of-requires : tie.Need-raw_of-requires
+raw_of-requires : tie.Need-raw_of-raw-requires
 raw_of-requires c κs = search rules
 
-steadied-requires : tie.Need-steadied-requires
+steadied-requires : tie.Need-steadied-st-requires
 steadied-requires c κs = search rules
 
-book-tick-requires : tie.Need-book-tick-requires
+book-tick-requires : tie.Need-book_tick-st-requires
 book-tick-requires c κs = search rules
 
-weigh-requires : tie.Need-weigh-requires
+weigh-requires : tie.Need-weigh-x-requires
 weigh-requires c κs = search rules
 
-ruling-requires : tie.Need-ruling-requires
+ruling-requires : tie.Need-ruling-outcome-requires
 ruling-requires c κs = search rules
 
-granted-requires : tie.Need-granted-requires
+granted-requires : tie.Need-granted-done-requires
 granted-requires c κs = search rules
 
-enum_told : tie.Need-enum-told
+enum_told : tie.Need-enum_told-1
 enum_told c = search rules
 
-enum-told-2 : tie.Need-enum-told-2
+enum-told-2 : tie.Need-enum_told-in-Zero
 enum-told-2 c = search rules
 
-zeroed-requires : tie.Need-zeroed-requires
+zeroed-requires : tie.Need-zeroed-st-requires
 zeroed-requires c κs = search rules
 
-enum-told-3 : tie.Need-enum-told-3
+enum-told-3 : tie.Need-enum_told-in-Tare
 enum-told-3 c = search rules
 
-tared-requires : tie.Need-tared-requires
+tared-requires : tie.Need-tared-st-requires
 tared-requires c κs = search rules
 
-enum-told-4 : tie.Need-enum-told-4
+enum-told-4 : tie.Need-enum_told-in-TareClear
 enum-told-4 c = search rules
 
-tared-requires-2 : tie.Need-tared-requires-2
+tared-requires-2 : tie.Need-tared-st-requires-in-TareClear
 tared-requires-2 c κs = search rules
 
-enum-told-5 : tie.Need-enum-told-5
+enum-told-5 : tie.Need-enum_told-in-Start
 enum-told-5 c = search rules
 
-start-sequence-requires : tie.Need-start-sequence-requires
+start-sequence-requires : tie.Need-start_sequence-st-requires
 start-sequence-requires c κs = search rules
 
-enum-told-6 : tie.Need-enum-told-6
+enum-told-6 : tie.Need-enum_told-in-Stop
 enum-told-6 c = search rules
 
-is-idle-requires : tie.Need-is-idle-requires
+is-idle-requires : tie.Need-is_idle-requires
 is-idle-requires c κs = search rules
 
-stop-sequence-requires : tie.Need-stop-sequence-requires
+stop-sequence-requires : tie.Need-stop_sequence-st-requires
 stop-sequence-requires c κs = search rules
 
-latest-requires : tie.Need-latest-requires
+latest-requires : tie.Need-latest-st-requires
 latest-requires c κs = search rules
 
-none-waiting-requires : tie.Need-none-waiting-requires
+none-waiting-requires : tie.Need-none_waiting-st-requires
 none-waiting-requires c κs = search rules
 
-enum-known-done : tie.Need-enum-known-done
+enum-known-done : tie.Need-enum_known-done
 enum-known-done c = search rules
 
-is-idle-requires-2 : tie.Need-is-idle-requires-2
+is-idle-requires-2 : tie.Need-is_idle-requires-in-Set
 is-idle-requires-2 c κs = search rules
 
-waiting-for-requires : tie.Need-waiting-for-requires
+waiting-for-requires : tie.Need-waiting_for-st-requires
 waiting-for-requires c κs = search rules
 
-enum-told-7 : tie.Need-enum-told-7
+enum-told-7 : tie.Need-enum_told-in-TotalClear
 enum-told-7 c = search rules
 
-clear-totals-requires : tie.Need-clear-totals-requires
+clear-totals-requires : tie.Need-clear_totals-st-requires
 clear-totals-requires c κs = search rules
 
-enum-told-8 : tie.Need-enum-told-8
+enum-told-8 : tie.Need-enum_told-in-Undo
 enum-told-8 c = search rules
 
-take-back-requires : tie.Need-take-back-requires
+take-back-requires : tie.Need-take_back-st-requires
 take-back-requires c κs = search rules
 
-enum-told-9 : tie.Need-enum-told-9
+enum-told-9 : tie.Need-enum_told-in-ShowGross
 enum-told-9 c = search rules
 
-enum-told-10 : tie.Need-enum-told-10
+enum-told-10 : tie.Need-enum_told-in-ShowNet
 enum-told-10 c = search rules
 
-enum-told-11 : tie.Need-enum-told-11
+enum-told-11 : tie.Need-enum_told-in-DayClose
 enum-told-11 c = search rules
 
-closed-book-requires : tie.Need-closed-book-requires
+closed-book-requires : tie.Need-closed_book-st-requires
 closed-book-requires c κs = search rules
 
-enum-told-12 : tie.Need-enum-told-12
+enum-told-12 : tie.Need-enum_told-in-Discharge
 enum-told-12 c = search rules
 
-discharge-sequence-requires : tie.Need-discharge-sequence-requires
+discharge-sequence-requires : tie.Need-discharge_sequence-st-requires
 discharge-sequence-requires c κs = search rules
 
-weigh-requires-2 : tie.Need-weigh-requires-2
+weigh-requires-2 : tie.Need-weigh-served-requires
 weigh-requires-2 c κs = search rules
 
-is-idle-requires-3 : tie.Need-is-idle-requires-3
+is-idle-requires-3 : tie.Need-is_idle-idle-requires
 is-idle-requires-3 c κs = search rules
 
-tracked-requires : tie.Need-tracked-requires
+tracked-requires : tie.Need-tracked-st-requires
 tracked-requires c κs = search rules
 
-compared-requires : tie.Need-compared-requires
+compared-requires : tie.Need-compared-v-requires
 compared-requires c κs = search rules
 
-is-fit-requires : tie.Need-is-fit-requires
+is-fit-requires : tie.Need-is_fit-fit-requires
 is-fit-requires c κs = search rules
 
-advance-requires : tie.Need-advance-requires
+advance-requires : tie.Need-advance-a-requires
 advance-requires c κs = search rules
 
-is-idle-requires-4 : tie.Need-is-idle-requires-4
+is-idle-requires-4 : tie.Need-is_idle-requires-then-not-idle
 is-idle-requires-4 c κs = search rules
 
-booked-sequence-requires : tie.Need-booked-sequence-requires
+booked-sequence-requires : tie.Need-booked_sequence-st-requires
 booked-sequence-requires c κs = search rules
 
-booked-totals-requires : tie.Need-booked-totals-requires
+booked-totals-requires : tie.Need-booked_totals-st-requires
 booked-totals-requires c κs = search rules
 
-latest-requires-2 : tie.Need-latest-requires-2
+latest-requires-2 : tie.Need-latest-st-requires-then-is_idle-2
 latest-requires-2 c κs = search rules
 
-none-waiting-requires-2 : tie.Need-none-waiting-requires-2
+none-waiting-requires-2 : tie.Need-none_waiting-st-requires-then-is_idle-2
 none-waiting-requires-2 c κs = search rules
 
 outputs-requires : tie.Need-outputs-requires
@@ -163,20 +163,20 @@ count s = search (sfits_of, s.well-formed.1.1.0)
 last : (s : tie.Start) → SFits w32 s.args.st.book.last
 last s = search (sfits_of, s.well-formed.1.0)
 
-abbrev start : tie.After-tracked → tie.Start
+abbrev start : tie.After-tracked-st → tie.Start
 start t = t.before.before.before.before.before.before.before.before.before.before.before.before.before.before
 
 -- step 4, where its ways meet
-left : (m : tie.At-match-branch) →
+left : (m : tie.Joined-done) →
     let g = m.before in
     let w = g.before.before.before in
     let k = w.before in
     let q = k.before in
     let a = q.before.before.before.before.args in
-    left_of outcome.Done m.match.st m.match.held m.match.keyed m.match.closed
-    ≡ granted_of (parts_of a.st k.book-tick.result q.steadied.result a.st.weighing) w.weigh.result g.granted.result
+    left_of outcome.Done m.match-done.st m.match-done.held m.match-done.keyed m.match-done.closed
+    ≡ granted_of (parts_of a.st k.book_tick-st.result q.steadied-st.result a.st.weighing) w.weigh-x.result g.granted-done.result
 left m =
-    let x = m.before.before.before.before.weigh.result in
+    let x = m.before.before.before.before.weigh-x.result in
     ⊎_elim
     (λ f. left_by f.2 f.3 f.4 f.5 (left_nothing _ _ _ f.1.given.1))
     (⊎_elim
@@ -210,9 +210,9 @@ left m =
     (⊎_elim
     (λ f. left_by f.4 f.5 f.6 f.7 (left_close _ _ _ f.1.given.1 _ f.3.ensures))
     (λ f. left_by f.3 f.4 f.5 f.6 (left_discharge _ _ _ f.1.given.1 _ f.2.ensures)))))))))))))))
-    m.match.branch
+    m.match-done.branch
 
-parts : (t : tie.After-tracked) →
+parts : (t : tie.After-tracked-st) →
     let i = t.before in
     let v = i.before.before in
     let m = v.before in
@@ -223,8 +223,8 @@ parts : (t : tie.After-tracked) →
     let q = k.before in
     let r = q.before.before in
     let a = r.before.before.args in
-    Asked a.s a.st a.i r.raw_of.result q.steadied.result k.book-tick.result w.weigh.result u.ruling.result g.granted.result
-    m.match.st m.match.held m.match.keyed m.match.closed v.weigh2.result i.is-idle3.result t.tracked.result
+    Asked a.s a.st a.i r.raw_of-raw.result q.steadied-st.result k.book_tick-st.result w.weigh-x.result u.ruling-outcome.result g.granted-done.result
+    m.match-done.st m.match-done.held m.match-done.keyed m.match-done.closed v.weigh-served.result i.is_idle-idle.result t.tracked-st.result
 parts t =
     let i = t.before in
     let v = i.before.before in
@@ -237,25 +237,25 @@ parts t =
     let r = q.before.before in
     let s = r.before.before in
     record {
-      raws = simp (to_z-of_z (count s)) at r.raw_of.ensures;
-      steadied = simp (to_z-of_z (last s)) at q.steadied.ensures;
-      booked = k.book-tick.ensures;
-      weighed = w.weigh.ensures;
-      ruled = u.ruling.ensures;
-      done = g.granted.ensures;
+      raws = simp (to_z-of_z (count s)) at r.raw_of-raw.ensures;
+      steadied = simp (to_z-of_z (last s)) at q.steadied-st.ensures;
+      booked = k.book_tick-st.ensures;
+      weighed = w.weigh-x.ensures;
+      ruled = u.ruling-outcome.ensures;
+      done = g.granted-done.ensures;
       left = left m;
-      served = v.weigh2.ensures;
-      idles = i.is-idle3.ensures;
-      tracked = t.tracked.ensures;
+      served = v.weigh-served.ensures;
+      idles = i.is_idle-idle.ensures;
+      tracked = t.tracked-st.ensures;
     }
 
 -- step 6, where its ways meet
-stepped : (j : tie.Joined3) →
+stepped : (j : tie.Joined-not-held) →
     let a = (start j.before).args in
-    j.if3.st ≡ next_of a.s a.st a.i
+    j.if-not-held.st ≡ next_of a.s a.st a.i
 stepped j =
     let p = parts j.before in
-    let x = j.before.before.before.before.weigh2.result in
+    let x = j.before.before.before.before.weigh-served.result in
     ⊎_elim
     (λ f.
     let v = (be (got {w = w64} f.2.result f.2.ok) f.2.ensures).read in
@@ -280,7 +280,7 @@ stepped j =
     (⊎_elim
     (λ n. asked_stepped p (not-true _ n.0.taken) _ (n.2 ∙ step_idle _ _ _ (sym p.idles ∙ not-false _ n.1.left)))
     (λ h. h.1 ∙ asked_held p (not-false _ h.0.left))))
-    j.if3.branch
+    j.if-not-held.branch
 
 returns : tie.Need-returns
 returns c =

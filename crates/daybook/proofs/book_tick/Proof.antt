@@ -8,27 +8,27 @@ use Rattle.outline.specs.DayBook.{book_of}
 use Rattle.daybook.proofs.book_tick.Statement.{statement}
 use Rattle.daybook.proofs.book_tick.Tie as tie
 
-enum_told : tie.Need-enum-told
+enum_told : tie.Need-enum_told-1
 enum_told c = search rules
 
-counted-requires : tie.Need-counted-requires
+counted-requires : tie.Need-counted-ticks-requires
 counted-requires c κs = search rules
 
-enum-known-raw : tie.Need-enum-known-raw
+enum-known-raw : tie.Need-enum_known-raw
 enum-known-raw c = search rules
 
-good-tick-requires : tie.Need-good-tick-requires
+good-tick-requires : tie.Need-good_tick-requires
 good-tick-requires c κs = search rules
 
-returns : tie.Need-returns
+returns : tie.Need-returns-in-Bad
 unfolding book_of
-returns c = simp (c.counted.ensures, c.before.enum_told.given.1)
+returns c = simp (c.counted-ticks.ensures, c.before.enum_told-1.given.1)
 
-returns-2 : tie.Need-returns-2
+returns-2 : tie.Need-returns-in-Tenths
 returns-2 c =
     let g = c.before.before in
-    let f : SFits w32 g.raw.given.0.0 = search sfits_of in
-    simp (c.good-tick.ensures, to_z-of_z f, g.raw.given.1)
+    let f : SFits w32 g.raw-1.given.0.0 = search sfits_of in
+    simp (c.good_tick.ensures, to_z-of_z f, g.raw-1.given.1)
 
 pub book_tick_spec : {M : Type 1} → statement M
 book_tick_spec =

@@ -28,13 +28,13 @@ change_small s = diff_abs s.ranges.to s.ranges.from
 abbrev plain : ℕ
 plain = 1073741824
 
-sum_small : (c : tie.Then2) → nat_abs c.before.before.args.sum ≤ plain
+sum_small : (c : tie.Then-sum-lt-BOOK_PLAIN) → nat_abs c.before.before.args.sum ≤ plain
 sum_small c =
     let s = c.before.before in
     let e = to_z-of_z s.ranges.sum in
-    inside s.args.sum plain (ap (le_z (neg_ℤ (pos plain))) (sym e) ∙ c.before.if1.true) (ap (λ (x : ℤ). lt_z x (pos plain)) (sym e) ∙ c.if2.true)
+    inside s.args.sum plain (ap (le_z (neg_ℤ (pos plain))) (sym e) ∙ c.before.else-sum.true) (ap (λ (x : ℤ). lt_z x (pos plain)) (sym e) ∙ c.if-sum-lt-BOOK_PLAIN.true)
 
-plain_fits : (c : tie.Then2) → SFits w64 (c.before.before.args.sum +ℤ change_of c.before.before)
+plain_fits : (c : tie.Then-sum-lt-BOOK_PLAIN) → SFits w64 (c.before.before.args.sum +ℤ change_of c.before.before)
 plain_fits c =
     let s = c.before.before in
     add_fits w64 plain 4294967296 s.args.sum (change_of s) (sum_small c) (change_small s) tt
@@ -58,21 +58,21 @@ total_fits s = add_fits w64 book_limit 4294967296 (limit_to book_limit s.args.su
 stopped : (c : tie.After-limited) → Read w64 (of_z w64 c.limited.result) (limit_to book_limit c.before.before.args.sum)
 stopped c = be (got c.limited.result c.limited.type-inv) (c.limited.ensures ∙ ap (limit_to book_limit) (to_z-of_z c.before.before.ranges.sum))
 
-change_2 : (c : tie.After-difference2) → Read w64 (of_z w64 c.difference2.result) (change_of c.before.before.before)
+change_2 : (c : tie.After-difference-2) → Read w64 (of_z w64 c.difference-2.result) (change_of c.before.before.before)
 change_2 c =
     let s = c.before.before.before in
-    be (got c.difference2.result c.difference2.type-inv) (simp (c.difference2.ensures, to_z-of_z s.ranges.to, to_z-of_z s.ranges.from))
+    be (got c.difference-2.result c.difference-2.type-inv) (simp (c.difference-2.ensures, to_z-of_z s.ranges.to, to_z-of_z s.ranges.from))
 
-sub-if1 : tie.Need-overflow-sub-if1
+sub-if1 : tie.Need-overflow_sub-t-5
 sub-if1 c = search rules
 
 difference-requires : tie.Need-difference-requires
 difference-requires c κs = search rules
 
-add-result : tie.Need-overflow-add-result
+add-result : tie.Need-overflow_add-result
 add-result c = add_need (arg c.before.before.before.ranges.sum) (change c) (plain_fits c.before)
 
-returns : tie.Need-returns
+returns : tie.Need-returns-then-sum-lt-BOOK_PLAIN
 returns c =
     let s = c.before.before.before in
     (add (arg s.ranges.sum) (change c) (plain_fits c.before)).read
@@ -84,18 +84,18 @@ limited-requires c κs = search rules
 difference-requires-2 : tie.Need-difference-requires-2
 difference-requires-2 c κs = search rules
 
-add-limited : tie.Need-overflow-add-limited
+add-limited : tie.Need-overflow_add-limited
 add-limited c = add_need (stopped c.before) (change_2 c) (total_fits c.before.before.before)
 
 limited-requires-2 : tie.Need-limited-requires-2
 limited-requires-2 c κs = search rules
 
-returns-2 : tie.Need-returns-2
+returns-2 : tie.Need-returns
 unfolding limit_of booked_of
 returns-2 c =
     let d = c.before in
-    (got c.limited2.result c.limited2.type-inv).read
-    ∙ c.limited2.ensures
+    (got c.limited-2.result c.limited-2.type-inv).read
+    ∙ c.limited-2.ensures
     ∙ ap (limit_to book_limit) (add (stopped d.before) (change_2 d) (total_fits d.before.before.before)).read
 
 pub booked_spec : {M : Type 1} → statement M

@@ -9,21 +9,21 @@ use Rattle.outline.specs.Limits.{day_ticks}
 use Rattle.daybook.proofs.counted.Statement.{statement}
 use Rattle.daybook.proofs.counted.Tie as tie
 
-is-in-day-requires : tie.Need-is-in-day-requires
+is-in-day-requires : tie.Need-is_in_day-requires
 is-in-day-requires c κs = search rules
 
-add-result : tie.Need-overflow-add-result
+add-result : tie.Need-overflow_add-result
 add-result c =
     let t = c.before in
-    fits_of (omega (arith, ltb-true t.before.before.args.b.ticks day_ticks (sym t.before.is-in-day.ensures ∙ t.if1.true)))
+    fits_of (omega (arith, ltb-true t.before.before.args.b.ticks day_ticks (sym t.before.is_in_day.ensures ∙ t.if-is_in_day.true)))
 
-returns : tie.Need-returns
+returns : tie.Need-returns-then-is_in_day
 returns c =
     let t = c.before in
-    simp (sym t.before.is-in-day.ensures ∙ t.if1.true, add-one)
+    simp (sym t.before.is_in_day.ensures ∙ t.if-is_in_day.true, add-one)
 
-returns-2 : tie.Need-returns-2
-returns-2 c = simp (sym c.before.is-in-day.ensures ∙ c.if1.false)
+returns-2 : tie.Need-returns-else-is_in_day
+returns-2 c = simp (sym c.before.is_in_day.ensures ∙ c.if-is_in_day.false)
 
 pub counted_spec : {M : Type 1} → statement M
 counted_spec = tie.close (tie.spec is-in-day-requires add-result returns returns-2)

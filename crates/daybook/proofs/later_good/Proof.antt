@@ -30,11 +30,11 @@ used_fits s = search sfits_of
 unbooked_fits : (s : tie.Start) → SFits w64 s.args.b.unbooked
 unbooked_fits s = search sfits_of
 
-abbrev entry : tie.After-is-in-day → tie.Start
+abbrev entry : tie.After-is_in_day → tie.Start
 entry d = d.before.before.before
 
-in_day_lem : (c : tie.Then1) → in_day (entry c.before).args.b ≡ true
-in_day_lem c = sym c.before.is-in-day.ensures ∙ c.if1.true
+in_day_lem : (c : tie.Then-is_in_day) → in_day (entry c.before).args.b ≡ true
+in_day_lem c = sym c.before.is_in_day.ensures ∙ c.if-is_in_day.true
 
 -- ---- what the code makes of each sum, and the definition
 abbrev refilled_by : Book → Bool → ℤ → ℤ → Book
@@ -59,10 +59,10 @@ module _ (b : Book) (raw : ℤ) (contact : Bool) where
   unfolding later_good
   unbook h = simp h
 
-is-in-day-requires : tie.Need-is-in-day-requires
+is-in-day-requires : tie.Need-is_in_day-requires
 is-in-day-requires c κs = search rules
 
-add-b : tie.Need-overflow-add-b
+add-b : tie.Need-overflow_add-b
 add-b c =
     let t = c.before in
     fits_of (omega (arith, ltb-true (entry t.before).args.b.ticks day_ticks (in_day_lem t)))
@@ -70,7 +70,7 @@ add-b c =
 booked-requires : tie.Need-booked-requires
 booked-requires c κs = search rules
 
-returns : tie.Need-returns
+returns : tie.Need-returns-then-refill
 returns c =
     let d = c.before.before in
     let t = d.before.before in
@@ -79,35 +79,35 @@ returns c =
     let new = to_z-of_z s.fits.raw in
     let sum : c.booked.result ≡ booked_of b.refilled (s.args.raw -ℤ b.last) =
     c.booked.ensures ∙ (λ i. booked_of (to_z-of_z (refilled_fits s) i) (new i -ℤ to_z-of_z (last_fits s) i)) in
-    (λ i. refilled_by b s.args.contact (new i) (sum i)) ∙ refill b s.args.raw s.args.contact (in_day_lem t) d.if2.true
+    (λ i. refilled_by b s.args.contact (new i) (sum i)) ∙ refill b s.args.raw s.args.contact (in_day_lem t) d.if-refill.true
 
-booked-requires-2 : tie.Need-booked-requires-2
+booked-requires-2 : tie.Need-booked-requires-then-is_in_day
 booked-requires-2 c κs = search rules
 
-returns-2 : tie.Need-returns-2
+returns-2 : tie.Need-returns-then-is_in_day
 returns-2 c =
     let d = c.before.before in
     let t = d.before.before in
     let s = entry t.before in
     let b = s.args.b in
     let new = to_z-of_z s.fits.raw in
-    let sum : c.booked2.result ≡ booked_of b.used (b.last -ℤ s.args.raw) =
-    c.booked2.ensures ∙ (λ i. booked_of (to_z-of_z (used_fits s) i) (to_z-of_z (last_fits s) i -ℤ new i)) in
-    (λ i. used_by b s.args.contact (new i) (sum i)) ∙ use_up b s.args.raw s.args.contact (in_day_lem t) d.if2.false
+    let sum : c.booked-then-is_in_day.result ≡ booked_of b.used (b.last -ℤ s.args.raw) =
+    c.booked-then-is_in_day.ensures ∙ (λ i. booked_of (to_z-of_z (used_fits s) i) (to_z-of_z (last_fits s) i -ℤ new i)) in
+    (λ i. used_by b s.args.contact (new i) (sum i)) ∙ use_up b s.args.raw s.args.contact (in_day_lem t) d.if-refill.false
 
-booked-requires-3 : tie.Need-booked-requires-3
+booked-requires-3 : tie.Need-booked-requires-2
 booked-requires-3 c κs = search rules
 
-returns-3 : tie.Need-returns-3
+returns-3 : tie.Need-returns
 returns-3 c =
     let t = c.before.before in
     let d = t.before in
     let s = entry d in
     let b = s.args.b in
     let new = to_z-of_z s.fits.raw in
-    let sum : c.booked3.result ≡ booked_of b.unbooked (b.last -ℤ s.args.raw) =
-    c.booked3.ensures ∙ (λ i. booked_of (to_z-of_z (unbooked_fits s) i) (to_z-of_z (last_fits s) i -ℤ new i)) in
-    (λ i. unbooked_by b s.args.contact (new i) (sum i)) ∙ unbook b s.args.raw s.args.contact (sym d.is-in-day.ensures ∙ t.if1.false)
+    let sum : c.booked-2.result ≡ booked_of b.unbooked (b.last -ℤ s.args.raw) =
+    c.booked-2.ensures ∙ (λ i. booked_of (to_z-of_z (unbooked_fits s) i) (to_z-of_z (last_fits s) i -ℤ new i)) in
+    (λ i. unbooked_by b s.args.contact (new i) (sum i)) ∙ unbook b s.args.raw s.args.contact (sym d.is_in_day.ensures ∙ t.if-is_in_day.false)
 
 pub later_good_spec : {M : Type 1} → statement M
 later_good_spec =

@@ -6,40 +6,40 @@ use Rattle.logs.proofs.RestLaws.{too_short, too_long, no_first_space, no_last_sp
 use Rattle.logs.proofs.is_rest.Statement.{statement}
 use Rattle.logs.proofs.is_rest.Tie as tie
 
-returns : tie.Need-returns
-returns c = too_short c.before.before.args.rest.now 0 (omega (arith, c.if1.true))
+returns : tie.Need-returns-then-rest-le-GAP
+returns c = too_short c.before.before.args.rest.now 0 (omega (arith, c.if-rest-le-GAP.true))
 
-returns-2 : tie.Need-returns-2
-returns-2 c = too_long c.before.before.before.args.rest.now 0 (omega (arith, c.if2.true))
+returns-2 : tie.Need-returns-then-rest-gt-REST_LIMIT
+returns-2 c = too_long c.before.before.before.args.rest.now 0 (omega (arith, c.if-rest-gt-REST_LIMIT.true))
 
-byte-at-requires : tie.Need-byte-at-requires
+byte-at-requires : tie.Need-byte_at-requires
 byte-at-requires c κs = tt
 
-returns-3 : tie.Need-returns-3
-returns-3 c = no_first_space c.before.before.before.before.before.args.rest.now 0 _ c.before.byte_at.ensures c.if3.true
+returns-3 : tie.Need-returns-then-byte_at-ne-SPACE
+returns-3 c = no_first_space c.before.before.before.before.before.args.rest.now 0 _ c.before.byte_at.ensures c.if-byte_at-ne-SPACE.true
 
-byte-at-requires-2 : tie.Need-byte-at-requires-2
+byte-at-requires-2 : tie.Need-byte_at-requires-2
 byte-at-requires-2 c κs = tt
 
-returns-4 : tie.Need-returns-4
-returns-4 c = no_last_space c.before.before.before.before.before.before.before.args.rest.now 0 _ c.before.byte-at2.ensures c.if4.true
+returns-4 : tie.Need-returns-then-byte_at-ne-SPACE-2
+returns-4 c = no_last_space c.before.before.before.before.before.before.before.args.rest.now 0 _ c.before.byte_at-2.ensures c.if-byte_at-ne-SPACE-2.true
 
-byte-at-requires-3 : tie.Need-byte-at-requires-3
+byte-at-requires-3 : tie.Need-byte_at-requires-3
 byte-at-requires-3 c κs = tt
 
-is-contact-requires : tie.Need-is-contact-requires
+is-contact-requires : tie.Need-is_contact-requires
 is-contact-requires c κs = tt
 
-returns-5 : tie.Need-returns-5
+returns-5 : tie.Need-returns
 returns-5 c =
     let last = c.before.before in
     let first = last.before.before in
     let few = first.before.before in
-    c.is-contact.ensures
-    ∙ ap is_contact c.before.byte-at3.ensures
+    c.is_contact.ensures
+    ∙ ap is_contact c.before.byte_at-3.ensures
     ∙ by_contact few.before.before.before.args.rest.now 0 _ _
-    first.before.byte_at.ensures first.if3.false last.before.byte-at2.ensures last.if4.false
-    (omega (arith, few.before.if1.false)) (omega (arith, few.if2.false))
+    first.before.byte_at.ensures first.if-byte_at-ne-SPACE.false last.before.byte_at-2.ensures last.if-byte_at-ne-SPACE-2.false
+    (omega (arith, few.before.if-rest-le-GAP.false)) (omega (arith, few.if-rest-gt-REST_LIMIT.false))
 
 pub is_rest_spec : {M : Type 1} → statement M
 is_rest_spec =

@@ -17,35 +17,35 @@ invariant_loop s₀ i₀ i-end s i = (i ≤ i-end) × (s ≡ replicate i 0 ++ dr
 abbrev decreases_loop : tie.decreases_loop
 decreases_loop s₀ i₀ i-end s i = i-end - i
 
-loop-holds : tie.Need-loop-init invariant_loop decreases_loop
+loop-holds : tie.Need-loop-i-init invariant_loop decreases_loop
 loop-holds c = (zero-le, refl, refl)
 
-slice-write-s : tie.Need-slice-write-s invariant_loop decreases_loop
+slice-write-s : tie.Need-bounds-s-i invariant_loop decreases_loop
 slice-write-s c = omega arith
 
-add-i : tie.Need-overflow-add-i invariant_loop decreases_loop
+add-i : tie.Need-overflow_step-i invariant_loop decreases_loop
 add-i c = omega arith
 
-loop-less : tie.Need-loop-smaller invariant_loop decreases_loop
+loop-less : tie.Need-loop-i-smaller invariant_loop decreases_loop
 loop-less c = omega arith
 
-loop-again : tie.Need-loop-preserved invariant_loop decreases_loop
+loop-again : tie.Need-loop-i-preserved invariant_loop decreases_loop
 loop-again c =
     let at-loop = c.before in
-    let i = at-loop.loop.i in (
-      add-one-le c.loop-test.true,
-      ap (λ (l : List ℕ). set l i 0) at-loop.loop.invariant.1 ∙ fill_more i 0 at-loop.before.args.s.now c.loop-test.true,
-      length-set at-loop.loop.s i 0 ∙ at-loop.loop.invariant.2,
+    let i = at-loop.loop-i.i in (
+      add-one-le c.loop-i-test.true,
+      ap (λ (l : List ℕ). set l i 0) at-loop.loop-i.invariant.1 ∙ fill_more i 0 at-loop.before.args.s.now c.loop-i-test.true,
+      length-set at-loop.loop-i.s i 0 ∙ at-loop.loop-i.invariant.2,
     )
 
-same_length : tie.Need-same-length invariant_loop decreases_loop
-same_length c = c.before.loop.invariant.2
+same_length : tie.Need-shape_of-s invariant_loop decreases_loop
+same_length c = c.before.loop-i.invariant.2
 
 returns : tie.Need-returns invariant_loop decreases_loop
 returns c =
     let at-loop = c.before in
     let s₀ = at-loop.before.args.s.now in
-    subst (λ (n : ℕ). at-loop.loop.s ≡ replicate n 0 ++ drop n s₀) (le_antisymm at-loop.loop.invariant.0 c.loop-test.false) at-loop.loop.invariant.1
+    subst (λ (n : ℕ). at-loop.loop-i.s ≡ replicate n 0 ++ drop n s₀) (le_antisymm at-loop.loop-i.invariant.0 c.loop-i-test.false) at-loop.loop-i.invariant.1
     ∙ ap (λ (l : List ℕ). replicate (length s₀) 0 ++ l) (drop-length s₀)
     ∙ append-nil (replicate (length s₀) 0)
 

@@ -3,13 +3,13 @@ use Rattle.places.specs.Places.{flag_tag}
 use Rattle.places.proofs.flag_tag.Statement.{statement}
 use Rattle.places.proofs.flag_tag.Tie as tie
 
-returns : tie.Need-returns
+returns : tie.Need-returns-then-b
 unfolding flag_tag
-returns c = simp c.if1.true
+returns c = simp c.if-b.true
 
-returns-2 : tie.Need-returns-2
+returns-2 : tie.Need-returns
 unfolding flag_tag
-returns-2 c = simp c.if1.false
+returns-2 c = simp c.if-b.false
 
 pub flag_tag_spec : {M : Type 1} → statement M
 flag_tag_spec = tie.close (tie.spec returns returns-2)

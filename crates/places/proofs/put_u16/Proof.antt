@@ -5,22 +5,22 @@ use Rattle.places.specs.Places.{put_be}
 use Rattle.places.proofs.put_u16.Statement.{statement}
 use Rattle.places.proofs.put_u16.Tie as tie
 
-cast-put-byte : tie.Need-overflow-cast-put-byte
+cast-put-byte : tie.Need-overflow_cast-v
 cast-put-byte c = search rules
 
-put-byte-requires : tie.Need-put-byte-requires
+put-byte-requires : tie.Need-put_byte-requires
 put-byte-requires c κs = search rules
 
-add-put-byte : tie.Need-overflow-add-put-byte
+add-put-byte : tie.Need-overflow_add-a
 add-put-byte c = search rules
 
-cast-put-byte-2 : tie.Need-overflow-cast-put-byte-2
+cast-put-byte-2 : tie.Need-overflow_cast-v-2
 cast-put-byte-2 c = search rules
 
-put-byte-requires-2 : tie.Need-put-byte-requires-2
+put-byte-requires-2 : tie.Need-put_byte-requires-2
 put-byte-requires-2 c κs = search rules
 
-same_length : tie.Need-same-length
+same_length : tie.Need-shape_of-s
 same_length c = search rules
 
 returns : tie.Need-returns

@@ -5,40 +5,40 @@ use Rattle.places.specs.Places.{put_be}
 use Rattle.places.proofs.put_u32.Statement.{statement}
 use Rattle.places.proofs.put_u32.Tie as tie
 
-cast-put-byte : tie.Need-overflow-cast-put-byte
+cast-put-byte : tie.Need-overflow_cast-v
 cast-put-byte c = search rules
 
-put-byte-requires : tie.Need-put-byte-requires
+put-byte-requires : tie.Need-put_byte-requires
 put-byte-requires c κs = search rules
 
-add-put-byte : tie.Need-overflow-add-put-byte
+add-put-byte : tie.Need-overflow_add-a
 add-put-byte c = search rules
 
-cast-put-byte-2 : tie.Need-overflow-cast-put-byte-2
+cast-put-byte-2 : tie.Need-overflow_cast-v-2
 cast-put-byte-2 c = search rules
 
-put-byte-requires-2 : tie.Need-put-byte-requires-2
+put-byte-requires-2 : tie.Need-put_byte-requires-2
 put-byte-requires-2 c κs = search rules
 
-add-put-byte-2 : tie.Need-overflow-add-put-byte-2
+add-put-byte-2 : tie.Need-overflow_add-a-2
 add-put-byte-2 c = search rules
 
-cast-put-byte-3 : tie.Need-overflow-cast-put-byte-3
+cast-put-byte-3 : tie.Need-overflow_cast-v-3
 cast-put-byte-3 c = search rules
 
-put-byte-requires-3 : tie.Need-put-byte-requires-3
+put-byte-requires-3 : tie.Need-put_byte-requires-3
 put-byte-requires-3 c κs = search rules
 
-add-put-byte-3 : tie.Need-overflow-add-put-byte-3
+add-put-byte-3 : tie.Need-overflow_add-a-3
 add-put-byte-3 c = search rules
 
-cast-put-byte-4 : tie.Need-overflow-cast-put-byte-4
+cast-put-byte-4 : tie.Need-overflow_cast-v-4
 cast-put-byte-4 c = search rules
 
-put-byte-requires-4 : tie.Need-put-byte-requires-4
+put-byte-requires-4 : tie.Need-put_byte-requires-4
 put-byte-requires-4 c κs = search rules
 
-same_length : tie.Need-same-length
+same_length : tie.Need-shape_of-s
 same_length c = search rules
 
 returns : tie.Need-returns

@@ -9,17 +9,17 @@ use Rattle.places.specs.Places.{put_be}
 use Rattle.places.proofs.put_u8.Statement.{statement}
 use Rattle.places.proofs.put_u8.Tie as tie
 
-put-byte-requires : tie.Need-put-byte-requires
+put-byte-requires : tie.Need-put_byte-requires
 put-byte-requires c κs = search rules
 
-same_length : tie.Need-same-length
+same_length : tie.Need-shape_of-s
 same_length c = search rules
 
 returns : tie.Need-returns
 unfolding put_be
 returns c =
     let a = c.before.before.before.before.before in
-    c.before.before.put_byte.ensures ∙ ap (λ (x : ℕ). set a.args.s.now a.args.at x) (sym (mod-eq_of_lt a.ranges.v.fits)) ∙ simp add-zero
+    c.before.before.put_byte.ensures ∙ ap (λ (x : ℕ). set a.args.s-1.now a.args.at x) (sym (mod-eq_of_lt a.ranges.v.fits)) ∙ simp add-zero
 
 pub put_u8_spec : {M : Type 1} → statement M
 put_u8_spec = tie.close (tie.spec put-byte-requires same_length returns)

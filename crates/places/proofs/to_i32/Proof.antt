@@ -12,33 +12,33 @@ use Rattle.places.proofs.Numbers.{minus_one, signed_high}
 use Rattle.places.proofs.to_i32.Statement.{statement}
 use Rattle.places.proofs.to_i32.Tie as tie
 
-small : (c : tie.Else1) → 4294967295 - c.before.args.u < 2147483648
+small : (c : tie.Else-u-lt2147483648) → 4294967295 - c.before.args.u < 2147483648
 small c = omega arith
 
-is : (c : tie.Else1) → negsuc 0 -ℤ to_z w32 (4294967295 - c.before.args.u) ≡ negsuc (4294967295 - c.before.args.u)
+is : (c : tie.Else-u-lt2147483648) → negsuc 0 -ℤ to_z w32 (4294967295 - c.before.args.u) ≡ negsuc (4294967295 - c.before.args.u)
 is c = ap (λ (z : ℤ). negsuc 0 -ℤ z) (to_z_pos w32 (4294967295 - c.before.args.u) (small c)) ∙ minus_one (4294967295 - c.before.args.u)
 
-cast-result : tie.Need-overflow-cast-result
+cast-result : tie.Need-overflow_cast-result
 cast-result c = search rules
 
-sub-result : tie.Need-overflow-sub-result
+sub-result : tie.Need-overflow_sub-result
 sub-result c = search rules
 
-cast-result-2 : tie.Need-overflow-cast-result-2
+cast-result-2 : tie.Need-overflow_cast-result-else-u-lt2147483648
 cast-result-2 c = search rules
 
-sub-result-2 : tie.Need-overflow-sub-result-2
+sub-result-2 : tie.Need-overflow_sub-result-else-u-lt2147483648
 sub-result-2 c = subst⁻¹ (SFits w32) (is c) (record { sfits = small c })
 
-returns : tie.Need-returns
+returns : tie.Need-returns-then-u-lt2147483648
 unfolding signed
 returns c = search rules
 
-returns-2 : tie.Need-returns-2
+returns-2 : tie.Need-returns-else-u-lt2147483648
 returns-2 c =
     ap (λ (z : ℤ). to_z w32 (of_z w32 z)) (is c)
     ∙ to_z-of_z w32 (negsuc (4294967295 - c.before.args.u)) (record { sfits = small c })
-    ∙ sym (signed_high w32 c.before.args.u c.if1.false)
+    ∙ sym (signed_high w32 c.before.args.u c.if-u-lt2147483648.false)
 
 pub to_i32_spec : {M : Type 1} → statement M
 to_i32_spec =

@@ -5,25 +5,25 @@ use Rattle.places.specs.Places.{be_at}
 use Rattle.places.proofs.u16_at.Statement.{statement}
 use Rattle.places.proofs.u16_at.Tie as tie
 
-byte-at-requires : tie.Need-byte-at-requires
+byte-at-requires : tie.Need-byte_at-b0-requires
 byte-at-requires c κs = search rules
 
-add-byte-at : tie.Need-overflow-add-byte-at
+add-byte-at : tie.Need-overflow_add-a
 add-byte-at c = search rules
 
-byte-at-requires-2 : tie.Need-byte-at-requires-2
+byte-at-requires-2 : tie.Need-byte_at-b1-requires
 byte-at-requires-2 c κs = search rules
 
-as-u16-requires : tie.Need-as-u16-requires
+as-u16-requires : tie.Need-as_u16-requires
 as-u16-requires c κs = search rules
 
-mul-result : tie.Need-overflow-mul-result
+mul-result : tie.Need-overflow_mul-result
 mul-result c = search rules
 
-as-u16-requires-2 : tie.Need-as-u16-requires-2
+as-u16-requires-2 : tie.Need-as_u16-requires-2
 as-u16-requires-2 c κs = search rules
 
-add-result : tie.Need-overflow-add-result
+add-result : tie.Need-overflow_add-result
 add-result c = search rules
 
 returns : tie.Need-returns

@@ -5,7 +5,7 @@ use Rattle.places.specs.Places.{be_at}
 use Rattle.places.proofs.u8_at.Statement.{statement}
 use Rattle.places.proofs.u8_at.Tie as tie
 
-byte-at-requires : tie.Need-byte-at-requires
+byte-at-requires : tie.Need-byte_at-requires
 byte-at-requires c κs = search rules
 
 returns : tie.Need-returns

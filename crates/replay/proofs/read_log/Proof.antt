@@ -6,22 +6,22 @@ use borrow.Author.Rules.{rules}
 use Rattle.replay.proofs.read_log.Statement.{statement}
 use Rattle.replay.proofs.read_log.Tie as tie
 
-large-buffer-requires : tie.Need-large-buffer-requires
+large-buffer-requires : tie.Need-large_buffer-space-requires
 large-buffer-requires c κs = search rules
 
-within-requires : tie.Need-within-requires
+within-requires : tie.Need-within-lent-requires
 within-requires c κs = search rules
 
-slice-aggregate-read-settings : tie.Need-slice-aggregate-read-settings
+slice-aggregate-read-settings : tie.Need-slice_bounds-read_settings-end
 slice-aggregate-read-settings c = search rules
 
-array-borrow-prefix-reply : tie.Need-array-borrow-prefix-reply
+array-borrow-prefix-reply : tie.Need-slice_bounds-reply-end
 array-borrow-prefix-reply c = search rules
 
-slice-aggregate-read-settings-2 : tie.Need-slice-aggregate-read-settings-2
+slice-aggregate-read-settings-2 : tie.Need-slice_bounds-read_settings-end-2
 slice-aggregate-read-settings-2 c = sym (length-take-le _ _ (omega arith))
 
-read-settings-requires : tie.Need-read-settings-requires
+read-settings-requires : tie.Need-read_settings-requires
 read-settings-requires c κs = search rules
 
 returns : tie.Need-returns

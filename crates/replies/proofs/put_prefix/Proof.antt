@@ -6,26 +6,26 @@ use borrow.Author.Rules.{rules}
 use Rattle.replies.proofs.put_prefix.Statement.{statement}
 use Rattle.replies.proofs.put_prefix.Tie as tie
 
-put-byte-requires : tie.Need-put-byte-requires
-put-byte-requires c κs = omega (arith, prefix_three c.before.if1.true)
+put-byte-requires : tie.Need-put_byte-n-requires
+put-byte-requires c κs = omega (arith, prefix_three c.before.if-address-gt0.true)
 
-add-put-pair : tie.Need-overflow-add-put-pair
+add-put-pair : tie.Need-overflow_add-address
 add-put-pair c = search rules
 
-add-put-pair-2 : tie.Need-overflow-add-put-pair-2
+add-put-pair-2 : tie.Need-overflow_add-address-then-address-gt0
 add-put-pair-2 c = search rules
 
-put-pair-requires : tie.Need-put-pair-requires
-put-pair-requires c κs = omega (arith, prefix_three c.before.before.before.before.before.if1.true)
+put-pair-requires : tie.Need-put_pair-requires
+put-pair-requires c κs = omega (arith, prefix_three c.before.before.before.before.before.if-address-gt0.true)
 
-same_length : tie.Need-same-length
+same_length : tie.Need-shape_of-buffer
 same_length c = search rules
 
-returns : tie.Need-returns
-returns c = prefix_some c.before.before.before.before.before.before.before.before.if1.true (more c.before.before.before.before.before.before.put_byte.ensures c.before.before.put-pair.ensures)
+returns : tie.Need-returns-then-address-gt0
+returns c = prefix_some c.before.before.before.before.before.before.before.before.if-address-gt0.true (more c.before.before.before.before.before.before.put_byte-n.ensures c.before.before.put_pair.ensures)
 
-returns-2 : tie.Need-returns-2
-returns-2 c = prefix_none _ c.if1.false
+returns-2 : tie.Need-returns-else-address-gt0
+returns-2 c = prefix_none _ c.if-address-gt0.false
 
 pub put_prefix_spec : {M : Type 1} → statement M
 put_prefix_spec =

@@ -12,55 +12,55 @@ use borrow.Author.Rules.{rules}
 use Rattle.replies.proofs.write_reply.Statement.{statement}
 use Rattle.replies.proofs.write_reply.Tie as tie
 
-text-length-requires : tie.Need-text-length-requires
+text-length-requires : tie.Need-text_length-text-requires
 text-length-requires c κs = search rules
 
-returns : tie.Need-returns
+returns : tie.Need-returns-then-text-eq0
 returns c =
     let a = c.before.before.before.args in
-    simp (no_text a.address a.r (sym c.before.text-length.ensures ∙ c.if1.true)) (silent_answer _, silent_bytes _)
+    simp (no_text a.address a.r (sym c.before.text_length-text.ensures ∙ c.if-text-eq0.true)) (silent_answer _, silent_bytes _)
 
-prefix-length-requires : tie.Need-prefix-length-requires
+prefix-length-requires : tie.Need-prefix_length-prefix-requires
 prefix-length-requires c κs = search rules
 
-cast-prefix : tie.Need-overflow-cast-prefix
+cast-prefix : tie.Need-overflow_cast-prefix
 cast-prefix c = search rules
 
-add-if2 : tie.Need-overflow-add-if2
+add-if2 : tie.Need-overflow_add-prefix
 add-if2 c = omega (arith, prefix_short c.before.before.before.before.args.address, text_short c.before.before.before.before.args.r)
 
-add-if2-2 : tie.Need-overflow-add-if2-2
+add-if2-2 : tie.Need-overflow_add-prefix-2
 add-if2-2 c = omega (arith, prefix_short c.before.before.before.before.args.address, text_short c.before.before.before.before.args.r)
 
-returns-2 : tie.Need-returns-2
+returns-2 : tie.Need-returns-then-buffer-prefix
 returns-2 c =
     let a = c.before.before.before.before.before.args in
     let xs = framed a.address (text_of a.r) in
-    let h : length a.buffer.now < length xs = rw (length_framed a.address a.r) (omega arith) in
-    simp (some_text a.address a.r (λ e. c.before.before.if1.false (c.before.before.before.text-length.ensures ∙ e))) (short_answer xs a.buffer.now h, short_bytes xs a.buffer.now h)
+    let h : length a.buffer-1.now < length xs = rw (length_framed a.address a.r) (omega arith) in
+    simp (some_text a.address a.r (λ e. c.before.before.if-text-eq0.false (c.before.before.before.text_length-text.ensures ∙ e))) (short_answer xs a.buffer-1.now h, short_bytes xs a.buffer-1.now h)
 
-put-prefix-requires : tie.Need-put-prefix-requires
+put-prefix-requires : tie.Need-put_prefix-n-requires
 put-prefix-requires c κs = search rules
 
-put-text-requires : tie.Need-put-text-requires
+put-text-requires : tie.Need-put_text-n-requires
 put-text-requires c κs = search rules
 
-put-pair-requires : tie.Need-put-pair-requires
+put-pair-requires : tie.Need-put_pair-n-requires
 put-pair-requires c κs = search rules
 
-same_length : tie.Need-same-length
+same_length : tie.Need-shape_of-buffer
 same_length c = search rules
 
-returns-3 : tie.Need-returns-3
+returns-3 : tie.Need-returns
 unfolding framed
 returns-3 c =
     let end = c.before.before in
     let text = end.before.before.before.before in
     let prefix = text.before.before.before.before in
-    let all = more (more prefix.put-prefix.ensures text.put-text.ensures) end.put-pair.ensures in
+    let all = more (more prefix.put_prefix-n.ensures text.put_text-n.ensures) end.put_pair-n.ensures in
     let test = prefix.before.before.before.before in
     let a = test.before.before.before.args in
-    simp (some_text a.address a.r (λ e. test.if1.false (test.before.text-length.ensures ∙ e))) (fitted_answer all (omega arith), fitted_bytes all (omega arith))
+    simp (some_text a.address a.r (λ e. test.if-text-eq0.false (test.before.text_length-text.ensures ∙ e))) (fitted_answer all (omega arith), fitted_bytes all (omega arith))
 
 pub write_reply_spec : {M : Type 1} → statement M
 write_reply_spec =

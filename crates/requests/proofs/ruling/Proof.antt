@@ -13,151 +13,151 @@ raw s = search sfits_of
 divisions : (s : tie.Start) → SFits w64 s.args.x.divisions
 divisions s = search sfits_of
 
-enum_told : tie.Need-enum-told
+enum_told : tie.Need-enum_told-1
 enum_told c = search rules
 
-returns : tie.Need-returns
-returns c = simp c.enum_told.given.1
+returns : tie.Need-returns-in-Nothing
+returns c = simp c.enum_told-1.given.1
 
-enum-told-2 : tie.Need-enum-told-2
+enum-told-2 : tie.Need-enum_told-in-Zero
 enum-told-2 c = search rules
 
-in-zero-range-requires : tie.Need-in-zero-range-requires
+in-zero-range-requires : tie.Need-in_zero_range-inside-requires
 in-zero-range-requires c κs = search rules
 
-still-ruling-requires : tie.Need-still-ruling-requires
+still-ruling-requires : tie.Need-still_ruling-requires
 still-ruling-requires c κs = search rules
 
-fit-ruling-requires : tie.Need-fit-ruling-requires
+fit-ruling-requires : tie.Need-fit_ruling-requires
 fit-ruling-requires c κs = search rules
 
-returns-2 : tie.Need-returns-2
+returns-2 : tie.Need-returns-in-Zero
 returns-2 c =
     let z = c.before.before in
     let m = z.before.before in
     simp (
-      c.fit-ruling.ensures,
-      c.before.still-ruling.ensures,
-      z.in-zero-range.ensures,
+      c.fit_ruling.ensures,
+      c.before.still_ruling.ensures,
+      z.in_zero_range-inside.ensures,
       to_z-of_z (raw m.before.before),
-      m.enum-told2.given.1,
+      m.enum_told-in-Zero-1.given.1,
     )
 
-enum-told-3 : tie.Need-enum-told-3
+enum-told-3 : tie.Need-enum_told-in-Tare
 enum-told-3 c = search rules
 
-in-tare-range-requires : tie.Need-in-tare-range-requires
+in-tare-range-requires : tie.Need-in_tare_range-inside-requires
 in-tare-range-requires c κs = search rules
 
-still-ruling-requires-2 : tie.Need-still-ruling-requires-2
+still-ruling-requires-2 : tie.Need-still_ruling-requires-in-Tare
 still-ruling-requires-2 c κs = search rules
 
-fit-ruling-requires-2 : tie.Need-fit-ruling-requires-2
+fit-ruling-requires-2 : tie.Need-fit_ruling-requires-in-Tare
 fit-ruling-requires-2 c κs = search rules
 
-returns-3 : tie.Need-returns-3
+returns-3 : tie.Need-returns-in-Tare
 returns-3 c =
     let z = c.before.before in
     let m = z.before.before in
     simp (
-      c.fit-ruling2.ensures,
-      c.before.still-ruling2.ensures,
-      z.in-tare-range.ensures,
+      c.fit_ruling-in-Tare.ensures,
+      c.before.still_ruling-in-Tare.ensures,
+      z.in_tare_range-inside.ensures,
       to_z-of_z (divisions m.before.before),
-      m.enum-told3.given.1,
+      m.enum_told-in-Tare-1.given.1,
     )
 
-enum-told-4 : tie.Need-enum-told-4
+enum-told-4 : tie.Need-enum_told-in-TareClear
 enum-told-4 c = search rules
 
-idle-ruling-requires : tie.Need-idle-ruling-requires
+idle-ruling-requires : tie.Need-idle_ruling-requires
 idle-ruling-requires c κs = search rules
 
-returns-4 : tie.Need-returns-4
-returns-4 c = simp (c.idle-ruling.ensures, c.before.enum-told4.given.1)
+returns-4 : tie.Need-returns-in-TareClear
+returns-4 c = simp (c.idle_ruling.ensures, c.before.enum_told-in-TareClear-1.given.1)
 
-enum-told-5 : tie.Need-enum-told-5
+enum-told-5 : tie.Need-enum_told-in-Start
 enum-told-5 c = search rules
 
-idle-ruling-requires-2 : tie.Need-idle-ruling-requires-2
+idle-ruling-requires-2 : tie.Need-idle_ruling-requires-in-Start
 idle-ruling-requires-2 c κs = search rules
 
-fit-ruling-requires-3 : tie.Need-fit-ruling-requires-3
+fit-ruling-requires-3 : tie.Need-fit_ruling-requires-in-Start
 fit-ruling-requires-3 c κs = search rules
 
-returns-5 : tie.Need-returns-5
-returns-5 c = simp (c.fit-ruling3.ensures, c.before.idle-ruling2.ensures, c.before.before.enum-told5.given.1)
+returns-5 : tie.Need-returns-in-Start
+returns-5 c = simp (c.fit_ruling-in-Start.ensures, c.before.idle_ruling-in-Start.ensures, c.before.before.enum_told-in-Start-1.given.1)
 
-enum-told-6 : tie.Need-enum-told-6
+enum-told-6 : tie.Need-enum_told-in-Stop
 enum-told-6 c = search rules
 
-returns-6 : tie.Need-returns-6
-returns-6 c = simp c.enum-told6.given.1
+returns-6 : tie.Need-returns-in-Stop
+returns-6 c = simp c.enum_told-in-Stop-1.given.1
 
-enum-known-r : tie.Need-enum-known-r
+enum-known-r : tie.Need-enum_known-r
 enum-known-r c = search rules
 
-set-ruling-requires : tie.Need-set-ruling-requires
+set-ruling-requires : tie.Need-set_ruling-requires
 set-ruling-requires c κs = search rules
 
-returns-7 : tie.Need-returns-7
-returns-7 c = simp (c.set-ruling.ensures, c.before.before.r.given.1)
+returns-7 : tie.Need-returns-in-Set
+returns-7 c = simp (c.set_ruling.ensures, c.before.before.r-1.given.1)
 
-enum-told-7 : tie.Need-enum-told-7
+enum-told-7 : tie.Need-enum_told-in-TotalClear
 enum-told-7 c = search rules
 
-returns-8 : tie.Need-returns-8
-returns-8 c = simp c.enum-told7.given.1
+returns-8 : tie.Need-returns-in-TotalClear
+returns-8 c = simp c.enum_told-in-TotalClear-1.given.1
 
-enum-told-8 : tie.Need-enum-told-8
+enum-told-8 : tie.Need-enum_told-in-Undo
 enum-told-8 c = search rules
 
-undo-ruling-requires : tie.Need-undo-ruling-requires
+undo-ruling-requires : tie.Need-undo_ruling-requires
 undo-ruling-requires c κs = search rules
 
-returns-9 : tie.Need-returns-9
-returns-9 c = simp (c.undo-ruling.ensures, c.before.enum-told8.given.1)
+returns-9 : tie.Need-returns-in-Undo
+returns-9 c = simp (c.undo_ruling.ensures, c.before.enum_told-in-Undo-1.given.1)
 
-enum-told-9 : tie.Need-enum-told-9
+enum-told-9 : tie.Need-enum_told-in-ShowGross
 enum-told-9 c = search rules
 
-returns-10 : tie.Need-returns-10
-returns-10 c = simp c.enum-told9.given.1
+returns-10 : tie.Need-returns-in-ShowGross
+returns-10 c = simp c.enum_told-in-ShowGross-1.given.1
 
-enum-told-10 : tie.Need-enum-told-10
+enum-told-10 : tie.Need-enum_told-in-ShowNet
 enum-told-10 c = search rules
 
-returns-11 : tie.Need-returns-11
-returns-11 c = simp c.enum-told10.given.1
+returns-11 : tie.Need-returns-in-ShowNet
+returns-11 c = simp c.enum_told-in-ShowNet-1.given.1
 
-enum-told-11 : tie.Need-enum-told-11
+enum-told-11 : tie.Need-enum_told-in-DayClose
 enum-told-11 c = search rules
 
-good-ruling-requires : tie.Need-good-ruling-requires
+good-ruling-requires : tie.Need-good_ruling-requires
 good-ruling-requires c κs = search rules
 
-returns-12 : tie.Need-returns-12
-returns-12 c = simp (c.good-ruling.ensures, c.before.enum-told11.given.1)
+returns-12 : tie.Need-returns-in-DayClose
+returns-12 c = simp (c.good_ruling.ensures, c.before.enum_told-in-DayClose-1.given.1)
 
-enum-told-12 : tie.Need-enum-told-12
+enum-told-12 : tie.Need-enum_told-in-Discharge
 enum-told-12 c = search rules
 
-mode-ruling-requires : tie.Need-mode-ruling-requires
+mode-ruling-requires : tie.Need-mode_ruling-requires
 mode-ruling-requires c κs = search rules
 
-idle-ruling-requires-3 : tie.Need-idle-ruling-requires-3
+idle-ruling-requires-3 : tie.Need-idle_ruling-requires-in-Discharge
 idle-ruling-requires-3 c κs = search rules
 
-fit-ruling-requires-4 : tie.Need-fit-ruling-requires-4
+fit-ruling-requires-4 : tie.Need-fit_ruling-requires-in-Discharge
 fit-ruling-requires-4 c κs = search rules
 
-returns-13 : tie.Need-returns-13
+returns-13 : tie.Need-returns-in-Discharge
 returns-13 c =
     simp (
-      c.fit-ruling4.ensures,
-      c.before.idle-ruling3.ensures,
-      c.before.before.mode-ruling.ensures,
-      c.before.before.before.enum-told12.given.1,
+      c.fit_ruling-in-Discharge.ensures,
+      c.before.idle_ruling-in-Discharge.ensures,
+      c.before.before.mode_ruling.ensures,
+      c.before.before.before.enum_told-in-Discharge-1.given.1,
     )
 
 pub ruling_spec : {M : Type 1} → statement M

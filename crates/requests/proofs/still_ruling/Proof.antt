@@ -3,25 +3,25 @@ use borrow.Author.Rules.{rules}
 use Rattle.requests.proofs.still_ruling.Statement.{statement}
 use Rattle.requests.proofs.still_ruling.Tie as tie
 
-is-idle-requires : tie.Need-is-idle-requires
+is-idle-requires : tie.Need-is_idle-idle-requires
 is-idle-requires c κs = search rules
 
-returns : tie.Need-returns
-returns c = simp (c.if1.true, ← c.before.is-idle.ensures)
+returns : tie.Need-returns-then-not-idle
+returns c = simp (c.if-not-idle.true, ← c.before.is_idle-idle.ensures)
 
-returns-2 : tie.Need-returns-2
-returns-2 c = simp (c.if2.true, c.before.if1.false, ← c.before.before.is-idle.ensures)
+returns-2 : tie.Need-returns-then-barred
+returns-2 c = simp (c.if-barred.true, c.before.if-not-idle.false, ← c.before.before.is_idle-idle.ensures)
 
-returns-3 : tie.Need-returns-3
-returns-3 c = simp (c.if3.true, c.before.if2.false, c.before.before.if1.false, ← c.before.before.before.is-idle.ensures)
+returns-3 : tie.Need-returns-then-not-stable
+returns-3 c = simp (c.if-not-stable.true, c.before.if-barred.false, c.before.before.if-not-idle.false, ← c.before.before.before.is_idle-idle.ensures)
 
-returns-4 : tie.Need-returns-4
+returns-4 : tie.Need-returns-then-inside
 returns-4 c = search rules
 
-returns-5 : tie.Need-returns-5
+returns-5 : tie.Need-returns
 returns-5 c =
     let i = c.before.before.before in
-    simp (c.if4.false, c.before.if3.false, c.before.before.if2.false, i.if1.false, ← i.before.is-idle.ensures)
+    simp (c.if-inside.false, c.before.if-not-stable.false, c.before.before.if-barred.false, i.if-not-idle.false, ← i.before.is_idle-idle.ensures)
 
 pub still_ruling_spec : {M : Type 1} → statement M
 still_ruling_spec = tie.close (tie.spec is-idle-requires returns returns-2 returns-3 returns-4 returns-5)

@@ -3,13 +3,13 @@ use borrow.Author.Rules.{rules}
 use Rattle.requests.proofs.undo_ruling.Statement.{statement}
 use Rattle.requests.proofs.undo_ruling.Tie as tie
 
-has-none-back-requires : tie.Need-has-none-back-requires
+has-none-back-requires : tie.Need-has_none_back-requires
 has-none-back-requires c κs = search rules
 
-returns : tie.Need-returns
-returns c = simp (c.if1.true, ← c.before.has-none-back.ensures)
+returns : tie.Need-returns-then-has_none_back
+returns c = simp (c.if-has_none_back.true, ← c.before.has_none_back.ensures)
 
-returns-2 : tie.Need-returns-2
+returns-2 : tie.Need-returns
 returns-2 c = search rules
 
 pub undo_ruling_spec : {M : Type 1} → statement M

@@ -8,28 +8,28 @@ use Rattle.whole.specs.Chains.{and_last, and_both, or_last}
 use Rattle.setpoints.proofs.optional_fits.Statement.{statement}
 use Rattle.setpoints.proofs.optional_fits.Tie as tie
 
-enum_told : tie.Need-enum-told
+enum_told : tie.Need-enum_told-1
 enum_told c = search rules
 
-returns : tie.Need-returns
-returns c = simp (eq-eqb _ _ c.if1.true, c.before.before.enum_told.given.1)
+returns : tie.Need-returns-then-p-eq0
+returns c = simp (eq-eqb _ _ c.if-p-eq0.true, c.before.before.enum_told-1.given.1)
 
-returns-2 : tie.Need-returns-2
-returns-2 c = simp (le-ltb _ _ c.if2.true, ne_eqb _ _ c.before.before.if1.false, c.before.before.before.before.enum_told.given.1)
+returns-2 : tie.Need-returns-then-p
+returns-2 c = simp (le-ltb _ _ c.if-p.true, ne_eqb _ _ c.before.before.if-p-eq0.false, c.before.before.before.before.enum_told-1.given.1)
 
-returns-3 : tie.Need-returns-3
-returns-3 c = simp (le-ltb _ _ c.if3.true, lt-ltb _ _ c.before.before.if2.false, ne_eqb _ _ c.before.before.before.before.if1.false, c.before.before.before.before.before.before.enum_told.given.1)
+returns-3 : tie.Need-returns-then-p-2
+returns-3 c = simp (le-ltb _ _ c.if-p-2.true, lt-ltb _ _ c.before.before.if-p.false, ne_eqb _ _ c.before.before.before.before.if-p-eq0.false, c.before.before.before.before.before.before.enum_told-1.given.1)
 
-enum-told-2 : tie.Need-enum-told-2
+enum-told-2 : tie.Need-enum_told-in-Loss
 enum-told-2 c = search rules
 
-returns-4 : tie.Need-returns-4
+returns-4 : tie.Need-returns-else-p-2
 returns-4 c =
-    and_last (and_both (lt-ltb _ _ c.before.before.before.if2.false) (lt-ltb _ _ c.before.if3.false))
-    ∙ or_last (ne_eqb _ _ c.before.before.before.before.before.if1.false)
-    ∙ ap (λ (m : Mode). optional_fits m c.before.before.before.before.before.before.before.before.before.args.p) (sym c.before.before.before.before.before.before.before.enum_told.given.1)
+    and_last (and_both (lt-ltb _ _ c.before.before.before.if-p.false) (lt-ltb _ _ c.before.if-p-2.false))
+    ∙ or_last (ne_eqb _ _ c.before.before.before.before.before.if-p-eq0.false)
+    ∙ ap (λ (m : Mode). optional_fits m c.before.before.before.before.before.before.before.before.before.args.p) (sym c.before.before.before.before.before.before.before.enum_told-1.given.1)
 
-returns-5 : tie.Need-returns-5
+returns-5 : tie.Need-returns-in-Loss
 returns-5 c = search rules
 
 pub optional_fits_spec : {M : Type 1} → statement M

@@ -5,14 +5,14 @@ use Rattle.whole.specs.Chains.{and_last, or_last}
 use Rattle.setpoints.proofs.preliminary_fits.Statement.{statement}
 use Rattle.setpoints.proofs.preliminary_fits.Tie as tie
 
-returns : tie.Need-returns
-returns c = simp (eq-eqb _ _ c.if1.true)
+returns : tie.Need-returns-then-p-eq0
+returns c = simp (eq-eqb _ _ c.if-p-eq0.true)
 
-returns-2 : tie.Need-returns-2
-returns-2 c = simp (le-ltb _ _ c.if2.true, ne_eqb _ _ c.before.before.if1.false)
+returns-2 : tie.Need-returns-then-p
+returns-2 c = simp (le-ltb _ _ c.if-p.true, ne_eqb _ _ c.before.before.if-p-eq0.false)
 
-returns-3 : tie.Need-returns-3
-returns-3 c = and_last (lt-ltb _ _ c.before.if2.false) ∙ or_last (ne_eqb _ _ c.before.before.before.if1.false)
+returns-3 : tie.Need-returns
+returns-3 c = and_last (lt-ltb _ _ c.before.if-p.false) ∙ or_last (ne_eqb _ _ c.before.before.before.if-p-eq0.false)
 
 pub preliminary_fits_spec : {M : Type 1} → statement M
 preliminary_fits_spec = tie.close (tie.spec returns returns-2 returns-3)

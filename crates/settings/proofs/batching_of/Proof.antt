@@ -14,28 +14,28 @@ held s = search sfits_of
 fits : (s : tie.Start) → Narrow s.args.g
 fits s = narrow s.args.g (held s) s.requires
 
-mode-of-requires : tie.Need-mode-of-requires
+mode-of-requires : tie.Need-mode_of-requires
 mode-of-requires c κs = search rules
 
-cast-t3 : tie.Need-overflow-cast-t3
+cast-t3 : tie.Need-overflow_cast-result
 cast-t3 c = let n = fits c.before.before.before.before in search rules
 
-cast-t4 : tie.Need-overflow-cast-t4
+cast-t4 : tie.Need-overflow_cast-result-2
 cast-t4 c = let n = fits c.before.before.before.before.before.before in search rules
 
-cast-t5 : tie.Need-overflow-cast-t5
+cast-t5 : tie.Need-overflow_cast-result-3
 cast-t5 c = let n = fits c.before.before.before.before.before.before.before.before in search rules
 
-cast-t6 : tie.Need-overflow-cast-t6
+cast-t6 : tie.Need-overflow_cast-result-4
 cast-t6 c = let n = fits c.before.before.before.before.before.before.before.before.before.before in search rules
 
-cast-t7 : tie.Need-overflow-cast-t7
+cast-t7 : tie.Need-overflow_cast-result-5
 cast-t7 c = let n = fits c.before.before.before.before.before.before.before.before.before.before.before.before in search rules
 
-cast-t8 : tie.Need-overflow-cast-t8
+cast-t8 : tie.Need-overflow_cast-result-6
 cast-t8 c = let n = fits c.before.before.before.before.before.before.before.before.before.before.before.before.before.before in search rules
 
-discharging-of-requires : tie.Need-discharging-of-requires
+discharging-of-requires : tie.Need-discharging_of-requires
 discharging-of-requires c κs = c.before.before.before.before.before.before.before.before.before.before.before.before.before.before.requires
 
 returns : tie.Need-returns
@@ -45,7 +45,7 @@ returns c =
     let h = held casts.before.before.before.before.before.before.before.before.before.before.before.before.before.before in
     simp (
       casts.before.before.before.before.before.before.before.before.before.before.before.before.Mode-of.ensures,
-      c.discharging-of.ensures,
+      c.discharging_of.ensures,
       to_z-of_z h.mode,
       to_z-of_z h.start,
       to_z-of_z h.large,

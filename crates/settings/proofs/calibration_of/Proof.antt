@@ -18,18 +18,18 @@ held s = search sfits_of
 fits : (s : tie.Start) → Narrow s.args.g
 fits s = narrow s.args.g (held s) s.requires
 
-counts : (c : tie.After-difference) → Read w64 (of_z w64 c.difference.result) (c.before.before.before.args.g.span -ℤ c.before.before.before.args.g.zero)
+counts : (c : tie.After-difference-counts) → Read w64 (of_z w64 c.difference-counts.result) (c.before.before.before.args.g.span -ℤ c.before.before.before.args.g.zero)
 counts c =
     let h = held c.before.before.before in
-    be (got c.difference.result c.difference.type-inv) (simp (c.difference.ensures, to_z-of_z h.span, to_z-of_z h.zero))
+    be (got c.difference-counts.result c.difference-counts.type-inv) (simp (c.difference-counts.ensures, to_z-of_z h.span, to_z-of_z h.zero))
 
-difference-requires : tie.Need-difference-requires
+difference-requires : tie.Need-difference-counts-requires
 difference-requires c κs = search rules
 
-cast-t4 : tie.Need-overflow-cast-t4
+cast-t4 : tie.Need-overflow_cast-result
 cast-t4 c = let f = (fits c.before.before.before).counts in drop_need (counts c) f.0 f.1
 
-cast-t5 : tie.Need-overflow-cast-t5
+cast-t5 : tie.Need-overflow_cast-result-2
 cast-t5 c = let n = fits c.before.before.before.before.before in search rules
 
 returns : tie.Need-returns

@@ -14,13 +14,13 @@ held s = search sfits_of
 fits : (s : tie.Start) → Narrow s.args.g
 fits s = narrow s.args.g (held s) s.requires
 
-cast-t2 : tie.Need-overflow-cast-t2
+cast-t2 : tie.Need-overflow_cast-result
 cast-t2 c = let n = fits c.before.before in search rules
 
-cast-t3 : tie.Need-overflow-cast-t3
+cast-t3 : tie.Need-overflow_cast-result-2
 cast-t3 c = let n = fits c.before.before.before.before in search rules
 
-cast-t4 : tie.Need-overflow-cast-t4
+cast-t4 : tie.Need-overflow_cast-result-3
 cast-t4 c = let n = fits c.before.before.before.before.before.before in search rules
 
 returns : tie.Need-returns

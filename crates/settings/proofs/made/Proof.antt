@@ -11,28 +11,28 @@ use Rattle.settings.proofs.made.Tie as tie
 held : (s : tie.Start) → Held s.args.g
 held s = search sfits_of
 
-calibration-of-requires : tie.Need-calibration-of-requires
+calibration-of-requires : tie.Need-calibration_of-requires
 calibration-of-requires c κs = search rules
 
-range-of-requires : tie.Need-range-of-requires
+range-of-requires : tie.Need-range_of-requires
 range-of-requires c κs = search rules
 
-tracking-of-requires : tie.Need-tracking-of-requires
+tracking-of-requires : tie.Need-tracking_of-requires
 tracking-of-requires c κs = search rules
 
-steadiness-of-requires : tie.Need-steadiness-of-requires
+steadiness-of-requires : tie.Need-steadiness_of-requires
 steadiness-of-requires c κs = search rules
 
-batching-of-requires : tie.Need-batching-of-requires
+batching-of-requires : tie.Need-batching_of-requires
 batching-of-requires c κs = search rules
 
-cast-t7 : tie.Need-overflow-cast-t7
+cast-t7 : tie.Need-overflow_cast-result
 cast-t7 c = let s = c.before.before.before.before.before.before.before in (narrow s.args.g (held s) s.requires).address
 
-board-of-requires : tie.Need-board-of-requires
+board-of-requires : tie.Need-board_of-requires
 board-of-requires c κs = search rules
 
-scale-of-requires : tie.Need-scale-of-requires
+scale-of-requires : tie.Need-scale_of-requires
 scale-of-requires c κs = search rules
 
 returns : tie.Need-returns
@@ -41,12 +41,12 @@ returns c =
     let p = c.before.before.before.before.before.before.before in
     let h = held p.before.before.before.before.before in
     simp (
-      p.before.before.before.before.calibration-of.ensures,
+      p.before.before.before.before.calibration_of.ensures,
       p.before.before.before.range_of.ensures,
-      p.before.before.tracking-of.ensures,
-      p.before.steadiness-of.ensures,
-      p.batching-of.ensures,
-      c.before.before.before.board-of.ensures,
+      p.before.before.tracking_of.ensures,
+      p.before.steadiness_of.ensures,
+      p.batching_of.ensures,
+      c.before.before.before.board_of.ensures,
       c.scale_of.ensures,
       to_z-of_z h.address,
       to_z-of_z h.board,

@@ -11,58 +11,58 @@ invariant_loop s space₀ reply₀ out₀ state₀ line₀ turns₀ space reply 
 abbrev decreases_loop : tie.decreases_loop
 decreases_loop s space₀ reply₀ out₀ state₀ line₀ turns₀ space reply out state line turns = turns
 
-large-buffer-requires : tie.Need-large-buffer-requires invariant_loop decreases_loop
+large-buffer-requires : tie.Need-large_buffer-space-requires invariant_loop decreases_loop
 large-buffer-requires c κs = search rules
 
-open-state-requires : tie.Need-open-state-requires invariant_loop decreases_loop
+open-state-requires : tie.Need-open_state-state-requires invariant_loop decreases_loop
 open-state-requires c κs = search rules
 
-slice-aggregate-first-line : tie.Need-slice-aggregate-first-line invariant_loop decreases_loop
+slice-aggregate-first-line : tie.Need-slice_bounds-first_line-end invariant_loop decreases_loop
 slice-aggregate-first-line c = search rules
 
-first-line-requires : tie.Need-first-line-requires invariant_loop decreases_loop
+first-line-requires : tie.Need-first_line-line-requires invariant_loop decreases_loop
 first-line-requires c κs = search rules
 
-loop-holds : tie.Need-loop-init invariant_loop decreases_loop
+loop-holds : tie.Need-loop-turns-init invariant_loop decreases_loop
 loop-holds c = search rules
 
-slice-aggregate-request-in : tie.Need-slice-aggregate-request-in invariant_loop decreases_loop
+slice-aggregate-request-in : tie.Need-slice_bounds-request_in-end invariant_loop decreases_loop
 slice-aggregate-request-in c = search rules
 
-request-in-requires : tie.Need-request-in-requires invariant_loop decreases_loop
+request-in-requires : tie.Need-request_in-request-requires invariant_loop decreases_loop
 request-in-requires c κs = search rules
 
-slice-aggregate-request-tick : tie.Need-slice-aggregate-request-tick invariant_loop decreases_loop
+slice-aggregate-request-tick : tie.Need-slice_bounds-request_tick-end invariant_loop decreases_loop
 slice-aggregate-request-tick c = search rules
 
-request-tick-requires : tie.Need-request-tick-requires invariant_loop decreases_loop
+request-tick-requires : tie.Need-request_tick-t-requires invariant_loop decreases_loop
 request-tick-requires c κs = search rules
 
-slice-aggregate-print-ticket : tie.Need-slice-aggregate-print-ticket invariant_loop decreases_loop
+slice-aggregate-print-ticket : tie.Need-slice_bounds-print_ticket-end invariant_loop decreases_loop
 slice-aggregate-print-ticket c = search rules
 
-print-ticket-requires : tie.Need-print-ticket-requires invariant_loop decreases_loop
+print-ticket-requires : tie.Need-print_ticket-requires invariant_loop decreases_loop
 print-ticket-requires c κs = search rules
 
-slice-aggregate-next-line : tie.Need-slice-aggregate-next-line invariant_loop decreases_loop
+slice-aggregate-next-line : tie.Need-slice_bounds-next_line-end invariant_loop decreases_loop
 slice-aggregate-next-line c = search rules
 
-next-line-requires : tie.Need-next-line-requires invariant_loop decreases_loop
+next-line-requires : tie.Need-next_line-line-requires invariant_loop decreases_loop
 next-line-requires c κs = search rules
 
-sub-turns : tie.Need-overflow-sub-turns invariant_loop decreases_loop
+sub-turns : tie.Need-overflow_sub-turns invariant_loop decreases_loop
 sub-turns c = search rules
 
-loop-less : tie.Need-loop-smaller invariant_loop decreases_loop
+loop-less : tie.Need-loop-turns-smaller invariant_loop decreases_loop
 loop-less c = search rules
 
-loop-again : tie.Need-loop-preserved invariant_loop decreases_loop
+loop-again : tie.Need-loop-turns-preserved invariant_loop decreases_loop
 loop-again c = search rules
 
-slice-aggregate-print-end : tie.Need-slice-aggregate-print-end invariant_loop decreases_loop
+slice-aggregate-print-end : tie.Need-slice_bounds-print_end-end invariant_loop decreases_loop
 slice-aggregate-print-end c = search rules
 
-print-end-requires : tie.Need-print-end-requires invariant_loop decreases_loop
+print-end-requires : tie.Need-print_end-requires invariant_loop decreases_loop
 print-end-requires c κs = search rules
 
 returns : tie.Need-returns invariant_loop decreases_loop

@@ -8,19 +8,19 @@ use Rattle.totals.proofs.booked_sequence.Statement.{statement}
 use Rattle.totals.proofs.booked_sequence.Tie as tie
 
 -- the answer that was given is that of v
-asked : (c : tie.After-is-bookable) → bookable c.before.args.t c.before.args.v ≡ c.is-bookable.result
-asked c = sym (c.is-bookable.ensures ∙ ap (bookable c.before.args.t) (to_z-of_z {w = w64} c.before.ranges.v))
+asked : (c : tie.After-is_bookable) → bookable c.before.args.t c.before.args.v ≡ c.is_bookable.result
+asked c = sym (c.is_bookable.ensures ∙ ap (bookable c.before.args.t) (to_z-of_z {w = w64} c.before.ranges.v))
 
-is-bookable-requires : tie.Need-is-bookable-requires
+is-bookable-requires : tie.Need-is_bookable-requires
 is-bookable-requires c κs = search rules
 
-returns : tie.Need-returns
+returns : tie.Need-returns-then-is_bookable
 unfolding booked_sequence
-returns c = simp (asked c.before ∙ c.if1.true)
+returns c = simp (asked c.before ∙ c.if-is_bookable.true)
 
-returns-2 : tie.Need-returns-2
+returns-2 : tie.Need-returns
 unfolding booked_sequence
-returns-2 c = simp (asked c.before ∙ c.if1.false)
+returns-2 c = simp (asked c.before ∙ c.if-is_bookable.false)
 
 pub booked_sequence_spec : {M : Type 1} → statement M
 booked_sequence_spec = tie.close (tie.spec is-bookable-requires returns returns-2)

@@ -29,33 +29,33 @@ module _ (t : Totals) (v : ℤ) (e : bookable t v ≡ true) where
   count_held = leb-true (suc t.count) batch_limit parts.1
 
 -- the answer that was given is that of v
-asked : (c : tie.After-is-bookable) → bookable c.before.args.t c.before.args.v ≡ c.is-bookable.result
-asked c = sym (c.is-bookable.ensures ∙ ap (bookable c.before.args.t) (to_z-of_z {w = w64} c.before.ranges.v))
+asked : (c : tie.After-is_bookable) → bookable c.before.args.t c.before.args.v ≡ c.is_bookable.result
+asked c = sym (c.is_bookable.ensures ∙ ap (bookable c.before.args.t) (to_z-of_z {w = w64} c.before.ranges.v))
 
 -- what is known where it is booked
-yes : (c : tie.Else1) → bookable c.before.before.args.t c.before.before.args.v ≡ true
-yes c = asked c.before ∙ not-false c.before.is-bookable.result c.if1.false
+yes : (c : tie.Else-not-is_bookable) → bookable c.before.before.args.t c.before.before.args.v ≡ true
+yes c = asked c.before ∙ not-false c.before.is_bookable.result c.if-not-is_bookable.false
 
-found : (c : tie.After-magnitude) → c.magnitude.result ≡ nat_abs c.before.before.before.args.v
-found c = c.magnitude.ensures ∙ ap nat_abs (to_z-of_z {w = w64} c.before.before.before.ranges.v)
+found : (c : tie.After-magnitude-weight) → c.magnitude-weight.result ≡ nat_abs c.before.before.before.args.v
+found c = c.magnitude-weight.ensures ∙ ap nat_abs (to_z-of_z {w = w64} c.before.before.before.ranges.v)
 
-is-bookable-requires : tie.Need-is-bookable-requires
+is-bookable-requires : tie.Need-is_bookable-requires
 is-bookable-requires c κs = search rules
 
-returns : tie.Need-returns
+returns : tie.Need-returns-then-not-is_bookable
 unfolding booked_totals
-returns c = simp (asked c.before ∙ not-true c.before.is-bookable.result c.if1.true)
+returns c = simp (asked c.before ∙ not-true c.before.is_bookable.result c.if-not-is_bookable.true)
 
-magnitude-requires : tie.Need-magnitude-requires
+magnitude-requires : tie.Need-magnitude-weight-requires
 magnitude-requires c κs = search rules
 
-add-t6 : tie.Need-overflow-add-t6
+add-t6 : tie.Need-overflow_add-result
 add-t6 c = let s = c.before.before.before.before in fits_of (omega (arith, found c.before, total_held s.args.t s.args.v (yes c.before.before)))
 
-add-t7 : tie.Need-overflow-add-t7
+add-t7 : tie.Need-overflow_add-result-2
 add-t7 c = let s = c.before.before.before.before.before in fits_of (omega (arith, count_held s.args.t s.args.v (yes c.before.before.before)))
 
-returns-2 : tie.Need-returns-2
+returns-2 : tie.Need-returns
 unfolding booked_totals
 returns-2 c = simp (yes c.before.before.before, found c.before.before, add-one)
 

@@ -29,34 +29,34 @@ sign : {t : Bool} (s : tie.Start) → lt_z (to_z w64 (of_z w64 s.args.v)) (pos 0
 sign s e = lt_is (arg s.ranges.v) (nat {w = w64} {n = 0} (lit< tt)) e
 
 -- the weight that was found
-found : (c : tie.After-magnitude) → c.magnitude.result ≡ nat_abs c.before.before.args.v
-found c = c.magnitude.ensures ∙ ap nat_abs (to_z-of_z {w = w64} c.before.before.ranges.v)
+found : (c : tie.After-magnitude-weight) → c.magnitude-weight.result ≡ nat_abs c.before.before.args.v
+found c = c.magnitude-weight.ensures ∙ ap nat_abs (to_z-of_z {w = w64} c.before.before.ranges.v)
 
-returns : tie.Need-returns
-returns c = let s = c.before in simp (below s.args.v (sign s c.if1.true))
+returns : tie.Need-returns-then-v-lt0
+returns c = let s = c.before in simp (below s.args.v (sign s c.if-v-lt0.true))
 
-magnitude-requires : tie.Need-magnitude-requires
+magnitude-requires : tie.Need-magnitude-weight-requires
 magnitude-requires c κs = search rules
 
-returns-2 : tie.Need-returns-2
+returns-2 : tie.Need-returns-then-weight-gt-TOTAL_LIMIT
 returns-2 c =
     let s = c.before.before.before in
     simp
-    (least s.args.v (sign s c.before.before.if1.false), lt-leb (s.args.t.total + nat_abs s.args.v) total_limit (omega (arith, found c.before, c.if2.true)))
+    (least s.args.v (sign s c.before.before.if-v-lt0.false), lt-leb (s.args.t.total + nat_abs s.args.v) total_limit (omega (arith, found c.before, c.if-weight-gt-TOTAL_LIMIT.true)))
 
-returns-3 : tie.Need-returns-3
+returns-3 : tie.Need-returns-then-weight-t
 returns-3 c =
     let s = c.before.before.before.before.before in
     simp
-    (least s.args.v (sign s c.before.before.before.before.if1.false), lt-leb (s.args.t.total + nat_abs s.args.v) total_limit (omega (arith, found c.before.before.before, c.if3.true)))
+    (least s.args.v (sign s c.before.before.before.before.if-v-lt0.false), lt-leb (s.args.t.total + nat_abs s.args.v) total_limit (omega (arith, found c.before.before.before, c.if-weight-t.true)))
 
-returns-4 : tie.Need-returns-4
+returns-4 : tie.Need-returns
 returns-4 c =
     let s = c.before.before.before.before.before.before in
     and_last
     (and_both
-    (least s.args.v (sign s c.before.before.before.before.before.if1.false))
-    (le-leb (s.args.t.total + nat_abs s.args.v) total_limit (omega (arith, found c.before.before.before.before, c.before.if3.false, c.before.before.before.if2.false))))
+    (least s.args.v (sign s c.before.before.before.before.before.if-v-lt0.false))
+    (le-leb (s.args.t.total + nat_abs s.args.v) total_limit (omega (arith, found c.before.before.before.before, c.before.if-weight-t.false, c.before.before.before.if-weight-gt-TOTAL_LIMIT.false))))
 
 pub is_bookable_spec : {M : Type 1} → statement M
 is_bookable_spec = tie.close (tie.spec returns magnitude-requires returns-2 returns-3 returns-4)

@@ -3,10 +3,10 @@ use borrow.Author.Rules.{rules}
 use Rattle.weight.proofs.is_fit.Statement.{statement}
 use Rattle.weight.proofs.is_fit.Tie as tie
 
-returns : tie.Need-returns
+returns : tie.Need-returns-then-x
 returns c = search rules
 
-returns-2 : tie.Need-returns-2
+returns-2 : tie.Need-returns-else-x
 returns-2 c = search rules
 
 pub is_fit_spec : {M : Type 1} → statement M

@@ -4,10 +4,10 @@ use mir.Facts.{to_z-of_z}
 use Rattle.weight.proofs.is_overloaded.Statement.{statement}
 use Rattle.weight.proofs.is_overloaded.Tie as tie
 
-cast-result : tie.Need-overflow-cast-result
+cast-result : tie.Need-overflow_cast-result
 cast-result c = search rules
 
-add-result : tie.Need-overflow-add-result
+add-result : tie.Need-overflow_add-result
 add-result c = search rules
 
 magnitude-requires : tie.Need-magnitude-requires

@@ -20,22 +20,22 @@ use Rattle.weight.proofs.kept.Tie as tie
 abbrev plain : ℕ
 plain = 1073741824
 
-small : (c : tie.Then2) → nat_abs c.before.before.args.x ≤ plain
+small : (c : tie.Then-x-lt-DISPLAY_PLAIN) → nat_abs c.before.before.args.x ≤ plain
 small c =
     let s = c.before.before in
     let e = to_z-of_z s.ranges.x in
-    inside s.args.x plain (ap (le_z (neg_ℤ (pos plain))) (sym e) ∙ c.before.if1.true) (ap (λ (x : ℤ). lt_z x (pos plain)) (sym e) ∙ c.if2.true)
+    inside s.args.x plain (ap (le_z (neg_ℤ (pos plain))) (sym e) ∙ c.before.else-x.true) (ap (λ (x : ℤ). lt_z x (pos plain)) (sym e) ∙ c.if-x-lt-DISPLAY_PLAIN.true)
 
-small_fits : (c : tie.Then2) → SFits w32 c.before.before.args.x
+small_fits : (c : tie.Then-x-lt-DISPLAY_PLAIN) → SFits w32 c.before.before.args.x
 small_fits c = fits_abs w32 (omega (arith, small c))
 
-sub-if1 : tie.Need-overflow-sub-if1
+sub-if1 : tie.Need-overflow_sub-t-3
 sub-if1 c = search rules
 
-cast-result : tie.Need-overflow-cast-result
+cast-result : tie.Need-overflow_cast-result
 cast-result c = cast_need (arg c.before.before.ranges.x) (small_fits c)
 
-returns : tie.Need-returns
+returns : tie.Need-returns-then-x-lt-DISPLAY_PLAIN
 returns c =
     let s = c.before.before in
     (cast (arg s.ranges.x) (small_fits c)).read ∙ sym (limit_plain display_limit s.args.x (omega (arith, small c)))
@@ -50,10 +50,10 @@ fits s = fits_abs w32 (omega (arith, limit_abs display_limit s.args.x))
 limited-requires : tie.Need-limited-requires
 limited-requires c κs = search rules
 
-cast-result-2 : tie.Need-overflow-cast-result-2
+cast-result-2 : tie.Need-overflow_cast-result-2
 cast-result-2 c = cast_need (stopped c) (fits c.before.before)
 
-returns-2 : tie.Need-returns-2
+returns-2 : tie.Need-returns
 returns-2 c = (cast (stopped c) (fits c.before.before)).read
 
 pub kept_spec : {M : Type 1} → statement M

@@ -8,27 +8,27 @@ use Rattle.outline.specs.Weight.{weigh_of}
 use Rattle.weight.proofs.weigh.Statement.{statement}
 use Rattle.weight.proofs.weigh.Tie as tie
 
-enum_told : tie.Need-enum-told
+enum_told : tie.Need-enum_told-1
 enum_told c = search rules
 
-is-stable-requires : tie.Need-is-stable-requires
+is-stable-requires : tie.Need-is_stable-stable-requires
 is-stable-requires c κs = search rules
 
-enum-known-raw : tie.Need-enum-known-raw
+enum-known-raw : tie.Need-enum_known-raw
 enum-known-raw c = search rules
 
-weigh-good-requires : tie.Need-weigh-good-requires
+weigh-good-requires : tie.Need-weigh_good-requires
 weigh-good-requires c κs = search rules
 
-returns : tie.Need-returns
+returns : tie.Need-returns-in-Bad
 unfolding weigh_of
-returns c = simp (c.before.before.enum_told.given.1, c.is-stable.ensures)
+returns c = simp (c.before.before.enum_told-1.given.1, c.is_stable-stable.ensures)
 
-returns-2 : tie.Need-returns-2
+returns-2 : tie.Need-returns-in-Tenths
 returns-2 c =
     let g = c.before.before in
-    let f : SFits w32 g.raw.given.0.0 = search sfits_of in
-    simp (c.weigh_good.ensures, to_z-of_z f, g.raw.given.1)
+    let f : SFits w32 g.raw-1.given.0.0 = search sfits_of in
+    simp (c.weigh_good.ensures, to_z-of_z f, g.raw-1.given.1)
 
 pub weigh_spec : {M : Type 1} → statement M
 weigh_spec =

@@ -25,65 +25,65 @@ abbrev fine_of : tie.Start → ℤ
 fine_of s = s.args.raw -ℤ s.args.w.zero
 
 abbrev gross_at : tie.Start → ℤ
-gross_at s = gross_of s.args.s.range (divisions_of (fine_of s))
+gross_at s = gross_of s.args.s.range-1 (divisions_of (fine_of s))
 
 product_fits : (s : tie.Start) → SFits w64 (gross_at s)
 product_fits s =
     let few : nat_abs (divisions_of (fine_of s)) ≤ 4294967296 =
     omega (arith, abs_nearest (fine_of s) 10, nearest_le (nat_abs (fine_of s)) 10, diff_abs s.ranges.raw (zero_fits s)) in
-    mul_fits w64 4294967296 255 (divisions_of (fine_of s)) s.args.s.range.division few (omega arith) tt
+    mul_fits w64 4294967296 255 (divisions_of (fine_of s)) s.args.s.range-1.division few (omega arith) tt
 
 -- and of the code
-fine : (c : tie.After-difference) → Read w64 (of_z w64 c.difference.result) (fine_of c.before.before)
+fine : (c : tie.After-difference-fine) → Read w64 (of_z w64 c.difference-fine.result) (fine_of c.before.before)
 fine c =
     let s = c.before.before in
-    be (got c.difference.result c.difference.type-inv) (simp (c.difference.ensures, to_z-of_z s.ranges.raw, to_z-of_z (zero_fits s)))
+    be (got c.difference-fine.result c.difference-fine.type-inv) (simp (c.difference-fine.ensures, to_z-of_z s.ranges.raw, to_z-of_z (zero_fits s)))
 
-divisions : (c : tie.After-nearest) → Read w64 (of_z w64 c.nearest.result) (divisions_of (fine_of c.before.before.before))
-divisions c = be (got c.nearest.result c.nearest.type-inv) (c.nearest.ensures ∙ ap divisions_of (fine c.before).read)
+divisions : (c : tie.After-nearest-divisions) → Read w64 (of_z w64 c.nearest-divisions.result) (divisions_of (fine_of c.before.before.before))
+divisions c = be (got c.nearest-divisions.result c.nearest-divisions.type-inv) (c.nearest-divisions.ensures ∙ ap divisions_of (fine c.before).read)
 
-division : (s : tie.Start) → Read w64 s.args.s.range.division (pos s.args.s.range.division)
+division : (s : tie.Start) → Read w64 s.args.s.range-1.division (pos s.args.s.range-1.division)
 division s = nat (omega arith)
 
-gross : (c : tie.After-kept) → Read w32 (of_z w32 c.kept.result) (kept_of (gross_at c.before.before.before.before.before.before))
+gross : (c : tie.After-kept-gross) → Read w32 (of_z w32 c.kept-gross.result) (kept_of (gross_at c.before.before.before.before.before.before))
 gross c =
     let s = c.before.before.before.before.before.before in
-    be (got c.kept.result c.kept.type-inv) (c.kept.ensures ∙ ap kept_of (mul (divisions c.before.before.before) (division s) (product_fits s)).read)
+    be (got c.kept-gross.result c.kept-gross.type-inv) (c.kept-gross.ensures ∙ ap kept_of (mul (divisions c.before.before.before) (division s) (product_fits s)).read)
 
-net : (c : tie.After-kept2) → Read w32 (of_z w32 c.kept2.result) (kept_of (kept_of (gross_at c.before.before.before.before.before.before.before.before.before) -ℤ c.before.before.before.before.before.before.before.before.before.args.w.tare))
+net : (c : tie.After-kept-net) → Read w32 (of_z w32 c.kept-net.result) (kept_of (kept_of (gross_at c.before.before.before.before.before.before.before.before.before) -ℤ c.before.before.before.before.before.before.before.before.before.args.w.tare))
 net c =
     let d = c.before in
     let s = d.before.before.before.before.before.before.before.before in
-    be (got c.kept2.result c.kept2.type-inv)
-    (c.kept2.ensures ∙ ap kept_of ((got {w = w64} d.difference2.result d.difference2.type-inv).read ∙ d.difference2.ensures ∙ (λ i. (gross d.before.before).read i -ℤ to_z-of_z (tare_fits s) i)))
+    be (got c.kept-net.result c.kept-net.type-inv)
+    (c.kept-net.ensures ∙ ap kept_of ((got {w = w64} d.difference.result d.difference.type-inv).read ∙ d.difference.ensures ∙ (λ i. (gross d.before.before).read i -ℤ to_z-of_z (tare_fits s) i)))
 
-difference-requires : tie.Need-difference-requires
+difference-requires : tie.Need-difference-fine-requires
 difference-requires c κs = search rules
 
-nearest-requires : tie.Need-nearest-requires
+nearest-requires : tie.Need-nearest-divisions-requires
 nearest-requires c κs = search rules
 
-cast-kept : tie.Need-overflow-cast-kept
+cast-kept : tie.Need-overflow_cast-range
 cast-kept c = search rules
 
-mul-kept : tie.Need-overflow-mul-kept
+mul-kept : tie.Need-overflow_mul-divisions
 mul-kept c =
     let s = c.before.before.before.before.before in
     mul_need (divisions c.before.before) (division s) (product_fits s)
 
-kept-requires : tie.Need-kept-requires
+kept-requires : tie.Need-kept-gross-requires
 kept-requires c κs = search rules
 
-difference-requires-2 : tie.Need-difference-requires-2
+difference-requires-2 : tie.Need-difference-requires
 difference-requires-2 c κs = search rules
 
-kept-requires-2 : tie.Need-kept-requires-2
+kept-requires-2 : tie.Need-kept-net-requires
 kept-requires-2 c κs = search rules
 
-is-overloaded-requires : tie.Need-is-overloaded-requires
+is-overloaded-requires : tie.Need-is_overloaded-overload-requires
 is-overloaded-requires c κs = search rules
 
-is-stable-requires : tie.Need-is-stable-requires
+is-stable-requires : tie.Need-is_stable-stable-requires
 is-stable-requires c κs = search rules
 
 returns : tie.Need-returns
@@ -99,8 +99,8 @@ returns c =
       (divisions d).read,
       (gross g).read,
       (net n).read,
-      c.before.before.is-overloaded.ensures,
-      c.is-stable.ensures,
+      c.before.before.is_overloaded-overload.ensures,
+      c.is_stable-stable.ensures,
     )
 
 pub weigh_good_spec : {M : Type 1} → statement M

@@ -10,27 +10,27 @@ use mir.Facts.{to_z-of_z, to_z_pos}
 use Rattle.zero.proofs.in_tare_range.Statement.{statement}
 use Rattle.zero.proofs.in_tare_range.Tie as tie
 
-low : (c : tie.After-at-most) → c.at_most.result ≡ le_z (pos 0) c.before.args.divisions
+low : (c : tie.After-at_most) → c.at_most.result ≡ le_z (pos 0) c.before.args.divisions
 low c = c.at_most.ensures ∙ ap (le_z (pos 0)) (to_z-of_z c.before.ranges.divisions)
 
-at-most-requires : tie.Need-at-most-requires
+at-most-requires : tie.Need-at_most-requires
 at-most-requires c κs = search rules
 
-cast-at-most : tie.Need-overflow-cast-at-most
+cast-at-most : tie.Need-overflow_cast-r
 cast-at-most c = search rules
 
-at-most-requires-2 : tie.Need-at-most-requires-2
+at-most-requires-2 : tie.Need-at_most-requires-then-at_most
 at-most-requires-2 c κs = search rules
 
-returns : tie.Need-returns
+returns : tie.Need-returns-then-at_most
 returns c =
     let t = c.before.before in
     let s = t.before.before in
     let top : to_z w64 s.args.r.capacity ≡ pos s.args.r.capacity = to_z_pos w64 (omega arith) in
-    simp (c.at-most2.ensures, to_z-of_z s.ranges.divisions, top, sym (low t.before) ∙ t.if1.true)
+    simp (c.at_most-then-at_most.ensures, to_z-of_z s.ranges.divisions, top, sym (low t.before) ∙ t.if-at_most.true)
 
-returns-2 : tie.Need-returns-2
-returns-2 c = simp (c.if1.false, sym (low c.before) ∙ c.if1.false)
+returns-2 : tie.Need-returns-else-at_most
+returns-2 c = simp (c.if-at_most.false, sym (low c.before) ∙ c.if-at_most.false)
 
 pub in_tare_range_spec : {M : Type 1} → statement M
 in_tare_range_spec =

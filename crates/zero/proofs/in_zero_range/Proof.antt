@@ -14,22 +14,22 @@ use Rattle.zero.proofs.in_zero_range.Tie as tie
 size : (c : tie.After-magnitude) → c.magnitude.result ≡ nat_abs c.before.args.raw
 size c = simp (c.magnitude.ensures, (cast (arg c.before.ranges.raw) (wider c.before.ranges.raw)).read)
 
-cast-magnitude : tie.Need-overflow-cast-magnitude
+cast-magnitude : tie.Need-overflow_cast-raw
 cast-magnitude c = cast_need (arg c.ranges.raw) (wider c.ranges.raw)
 
 magnitude-requires : tie.Need-magnitude-requires
 magnitude-requires c κs = search rules
 
-mul-result : tie.Need-overflow-mul-result
+mul-result : tie.Need-overflow_mul-result
 mul-result c = fits_of (omega (arith, size c, abs_fits w32 c.before.ranges.raw))
 
-cast-result : tie.Need-overflow-cast-result
+cast-result : tie.Need-overflow_cast-result
 cast-result c = search rules
 
-cast-result-2 : tie.Need-overflow-cast-result-2
+cast-result-2 : tie.Need-overflow_cast-result-2
 cast-result-2 c = search rules
 
-mul-result-2 : tie.Need-overflow-mul-result-2
+mul-result-2 : tie.Need-overflow_mul-result-2
 mul-result-2 c = fits_of (N.lt_of_le_of_lt (N.mul-le-mul {n₂ = 65535} {m₂ = 255} (omega arith) (omega arith)) (lit< tt))
 
 returns : tie.Need-returns

@@ -7,13 +7,13 @@ use Rattle.batch.proofs.Laws.{more_fits, more_is}
 use Rattle.batch.proofs.comparison.is_over.Statement.{statement}
 use Rattle.batch.proofs.comparison.is_over.Tie as tie
 
-cast-result : tie.Need-overflow-cast-result
+cast-result : tie.Need-overflow_cast-result
 cast-result c = search rules
 
-cast-result-2 : tie.Need-overflow-cast-result-2
+cast-result-2 : tie.Need-overflow_cast-result-2
 cast-result-2 c = search rules
 
-add-result : tie.Need-overflow-add-result
+add-result : tie.Need-overflow_add-result
 add-result c = more_fits c.before.before.args.p.target c.before.before.args.p.over (omega arith) (omega arith)
 
 returns : tie.Need-returns

@@ -7,13 +7,13 @@ use Rattle.batch.proofs.Laws.{less_fits, less_is}
 use Rattle.batch.proofs.comparison.is_under.Statement.{statement}
 use Rattle.batch.proofs.comparison.is_under.Tie as tie
 
-cast-result : tie.Need-overflow-cast-result
+cast-result : tie.Need-overflow_cast-result
 cast-result c = search rules
 
-cast-result-2 : tie.Need-overflow-cast-result-2
+cast-result-2 : tie.Need-overflow_cast-result-2
 cast-result-2 c = search rules
 
-sub-result : tie.Need-overflow-sub-result
+sub-result : tie.Need-overflow_sub-result
 sub-result c = less_fits c.before.before.args.p.target c.before.before.args.p.under (omega arith) (omega arith)
 
 returns : tie.Need-returns

@@ -7,43 +7,43 @@ use Rattle.batch.proofs.StageLaws.{emptying_left, delay_to}
 use Rattle.batch.proofs.discharge.discharged.Statement.{statement}
 use Rattle.batch.proofs.discharge.discharged.Tie as tie
 
-enum-known-stage : tie.Need-enum-known-stage
+enum-known-stage : tie.Need-enum_known-stage
 enum-known-stage c = search rules
 
 emptied-requires : tie.Need-emptied-requires
-emptied-requires c κs = emptying_left c.before.args.q.stage c.match.keys2 c.before.requires
+emptied-requires c κs = emptying_left c.before.args.q.stage-1 c.in_default.keys2 c.before.requires
 
-returns : tie.Need-returns
+returns : tie.Need-returns-in_default
 returns c = λ s v. simp (to_z-of_z c.before.before.ranges.gross) at (c.emptied.ensures s v)
 
 wait-requires : tie.Need-wait-requires
 wait-requires c κs = search rules
 
-enum-known-u : tie.Need-enum-known-u
+enum-known-u : tie.Need-enum_known-u
 enum-known-u c = search rules
 
 to-requires : tie.Need-to-requires
 to-requires c κs = search rules
 
-returns-2 : tie.Need-returns-2
+returns-2 : tie.Need-returns-in-Still
 unfolding move_of
 returns-2 c = λ s v.
     let w = c.before.before.before.before in
-    let g = w.before.before.stage.given.1 in
-    c.to.ensures ∙ delay_to _ _ _ _ refl _ g refl refl refl _ (simp (sym w.wait.ensures ∙ c.before.before.u.given.1))
+    let g = w.before.before.stage-1.given.1 in
+    c.to.ensures ∙ delay_to _ _ _ _ refl _ g refl refl refl _ (simp (sym w.wait.ensures ∙ c.before.before.u-1.given.1))
 
-enum_told : tie.Need-enum-told
+enum_told : tie.Need-enum_told-1
 enum_told c = search rules
 
-to-requires-2 : tie.Need-to-requires-2
+to-requires-2 : tie.Need-to-requires-in-Over
 to-requires-2 c κs = search rules
 
-returns-3 : tie.Need-returns-3
+returns-3 : tie.Need-returns-in-Over
 unfolding move_of
 returns-3 c = λ s v.
     let w = c.before.before.before in
-    let g = w.before.before.stage.given.1 in
-    c.to2.ensures ∙ delay_to _ _ _ _ refl _ g refl refl refl _ (simp (sym w.wait.ensures ∙ c.before.enum_told.given.1))
+    let g = w.before.before.stage-1.given.1 in
+    c.to-in-Over.ensures ∙ delay_to _ _ _ _ refl _ g refl refl refl _ (simp (sym w.wait.ensures ∙ c.before.enum_told-1.given.1))
 
 pub discharged_spec : {M : Type 1} → statement M
 discharged_spec =

@@ -15,83 +15,83 @@ use Rattle.batch.proofs.discharge.emptied.Statement.{statement}
 use Rattle.batch.proofs.discharge.emptied.Tie as tie
 
 -- the place below the limit, where the stages part
-abbrev start : tie.After-struct-known3 → tie.Start
+abbrev start : tie.After-struct_known-3-1 → tie.Start
 start k = k.before.before.before.before
 
-moves : (k : tie.After-struct-known3) (s : Bool) (v : ℤ) (g : Stage) →
+moves : (k : tie.After-struct_known-3-1) (s : Bool) (v : ℤ) (g : Stage) →
     let a = (start k).args in
     let f = facts_at a.p false s v a.gross in
-    move_of a.b a.p a.q.stage f ≡ To g
+    move_of a.b a.p a.q.stage-1 f ≡ To g
     → ◌≡◌ {A = Advanced} (record { sequence = record { stage = g; clock = a.q.clock + 1; error = a.q.error; judgement = a.q.judgement }; finished = false })
     (advance_of a.b a.p a.q f)
-moves k s v g m = empty-to _ _ _ _ refl (start k).requires k.before.if1.false g m
+moves k s v g m = empty-to _ _ _ _ refl (start k).requires k.before.if-b-q.false g m
 
 fail-requires : tie.Need-fail-requires
 fail-requires c κs = search rules
 
-returns : tie.Need-returns
-returns c = λ s v. c.fail.ensures ∙ empty-slow _ _ _ _ refl c.before.before.before.before.requires c.before.if1.true
+returns : tie.Need-returns-then-b-q
+returns c = λ s v. c.fail.ensures ∙ empty-slow _ _ _ _ refl c.before.before.before.before.requires c.before.if-b-q.true
 
-add-clock : tie.Need-overflow-add-clock
-add-clock c = record { fits = omega (arith, c.before.if1.false, c.before.before.before.before.well-formed.0.1.1.1.1.1.1.1.1.1.0) }
+add-clock : tie.Need-overflow_add-clock
+add-clock c = record { fits = omega (arith, c.before.if-b-q.false, c.before.before.before.before.well-formed.0.1.1.1.1.1.1.1.1.1.0) }
 
-enum-known-stage : tie.Need-enum-known-stage
+enum-known-stage : tie.Need-enum_known-stage
 enum-known-stage c = search rules
 
-is-at-near-requires : tie.Need-is-at-near-requires
+is-at-near-requires : tie.Need-is_at_near-requires
 is-at-near-requires c κs = search rules
 
 to-requires : tie.Need-to-requires
 to-requires c κs = search rules
 
-returns-2 : tie.Need-returns-2
+returns-2 : tie.Need-returns-then-is_at_near
 unfolding move_of
 returns-2 c = λ s v.
     let m = c.before.before.before in
     let k = m.before in
-    let e = simp (to_z-of_z (start k).ranges.gross) at c.before.before.is-at-near.ensures in
-    c.to.ensures ∙ moves k s v _ (simp (c.before.if2.true, ← e, open_left (start k).args.q.stage m.match.keys2 (start k).requires))
+    let e = simp (to_z-of_z (start k).ranges.gross) at c.before.before.is_at_near.ensures in
+    c.to.ensures ∙ moves k s v _ (simp (c.before.if-is_at_near.true, ← e, open_left (start k).args.q.stage-1 m.in_default.keys2 (start k).requires))
 
-to-requires-2 : tie.Need-to-requires-2
+to-requires-2 : tie.Need-to-requires-in_default
 to-requires-2 c κs = search rules
 
-returns-3 : tie.Need-returns-3
+returns-3 : tie.Need-returns-in_default
 unfolding move_of
 returns-3 c = λ s v.
     let m = c.before.before.before in
     let k = m.before in
-    let e = simp (to_z-of_z (start k).ranges.gross) at c.before.before.is-at-near.ensures in
-    c.to2.ensures ∙ moves k s v _ (simp (c.before.if2.false, ← e, open_left (start k).args.q.stage m.match.keys2 (start k).requires))
+    let e = simp (to_z-of_z (start k).ranges.gross) at c.before.before.is_at_near.ensures in
+    c.to-in_default.ensures ∙ moves k s v _ (simp (c.before.if-is_at_near.false, ← e, open_left (start k).args.q.stage-1 m.in_default.keys2 (start k).requires))
 
 wait-requires : tie.Need-wait-requires
 wait-requires c κs = search rules
 
-enum-known-u : tie.Need-enum-known-u
+enum-known-u : tie.Need-enum_known-u
 enum-known-u c = search rules
 
-to-requires-3 : tie.Need-to-requires-3
+to-requires-3 : tie.Need-to-requires-in-Still
 to-requires-3 c κs = search rules
 
-returns-4 : tie.Need-returns-4
+returns-4 : tie.Need-returns-in-Still
 unfolding move_of
 returns-4 c = λ s v.
     let w = c.before.before.before.before in
     let g = w.before.before in
-    c.to3.ensures ∙ moves g.before.before s v _ (simp (sym w.wait.ensures ∙ c.before.before.u.given.1, g.stage.given.1))
+    c.to-in-Still.ensures ∙ moves g.before.before s v _ (simp (sym w.wait.ensures ∙ c.before.before.u-1.given.1, g.stage-1.given.1))
 
-enum_told : tie.Need-enum-told
+enum_told : tie.Need-enum_told-1
 enum_told c = search rules
 
-to-requires-4 : tie.Need-to-requires-4
+to-requires-4 : tie.Need-to-requires-in-Over
 to-requires-4 c κs = search rules
 
-returns-5 : tie.Need-returns-5
+returns-5 : tie.Need-returns-in-Over
 unfolding move_of
 returns-5 c = λ s v.
     let w = c.before.before.before in
     let g = w.before.before in
     let k = g.before.before in
-    c.to4.ensures ∙ empty-over _ _ _ _ refl (start k).requires k.before.if1.false (simp (sym w.wait.ensures ∙ c.before.enum_told.given.1, g.stage.given.1))
+    c.to-in-Over.ensures ∙ empty-over _ _ _ _ refl (start k).requires k.before.if-b-q.false (simp (sym w.wait.ensures ∙ c.before.enum_told-1.given.1, g.stage-1.given.1))
 
 pub emptied_spec : {M : Type 1} → statement M
 emptied_spec =

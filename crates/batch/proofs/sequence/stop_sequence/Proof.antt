@@ -4,24 +4,24 @@ use Rattle.outline.specs.Stages.{stop_sequence}
 use Rattle.batch.proofs.sequence.stop_sequence.Statement.{statement}
 use Rattle.batch.proofs.sequence.stop_sequence.Tie as tie
 
-is-idle-requires : tie.Need-is-idle-requires
+is-idle-requires : tie.Need-is_idle-requires
 is-idle-requires c κs = search rules
 
-returns : tie.Need-returns
+returns : tie.Need-returns-then-is_idle
 unfolding stop_sequence
-returns c = simp (c.if1.true, ← c.before.is-idle.ensures)
+returns c = simp (c.if-is_idle.true, ← c.before.is_idle.ensures)
 
-stop-error-requires : tie.Need-stop-error-requires
+stop-error-requires : tie.Need-stop_error-requires
 stop-error-requires c κs = search rules
 
 failed-requires : tie.Need-failed-requires
 failed-requires c κs = search rules
 
-returns-2 : tie.Need-returns-2
+returns-2 : tie.Need-returns
 unfolding stop_sequence
 returns-2 c =
     let e = c.before in
-    simp (c.failed.ensures, e.stop_error_lem.ensures, e.before.if1.false, ← e.before.before.is-idle.ensures)
+    simp (c.failed.ensures, e.stop_error_lem.ensures, e.before.if-is_idle.false, ← e.before.before.is_idle.ensures)
 
 pub stop_sequence_spec : {M : Type 1} → statement M
 stop_sequence_spec = tie.close (tie.spec is-idle-requires returns stop-error-requires failed-requires returns-2)

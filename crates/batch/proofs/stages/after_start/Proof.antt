@@ -9,34 +9,34 @@ use Rattle.batch.proofs.stages.after_start.Tie as tie
 fail-requires : tie.Need-fail-requires
 fail-requires c κs = search rules
 
-returns : tie.Need-returns
+returns : tie.Need-returns-then-p-eq0
 unfolding after_start land_of
-returns c = λ s x. simp (c.fail.ensures, eq-eqb _ _ c.before.if1.true)
+returns c = λ s x. simp (c.fail.ensures, eq-eqb _ _ c.before.if-p-eq0.true)
 
-is-reached-requires : tie.Need-is-reached-requires
+is-reached-requires : tie.Need-is_reached-requires
 is-reached-requires c κs = search rules
 
-fail-requires-2 : tie.Need-fail-requires-2
+fail-requires-2 : tie.Need-fail-requires-then-is_reached
 fail-requires-2 c κs = search rules
 
-returns-2 : tie.Need-returns-2
+returns-2 : tie.Need-returns-then-is_reached
 unfolding after_start land_of
 returns-2 c = λ s x.
-    let e = simp (to_z-of_z c.before.before.before.before.before.ranges.v) at c.before.before.is-reached.ensures in
-    simp (c.fail2.ensures, c.before.if2.true, ← e, ne_eqb _ _ c.before.before.before.if1.false)
+    let e = simp (to_z-of_z c.before.before.before.before.before.ranges.v) at c.before.before.is_reached.ensures in
+    simp (c.fail-then-is_reached.ensures, c.before.if-is_reached.true, ← e, ne_eqb _ _ c.before.before.before.if-p-eq0.false)
 
-first-flow-requires : tie.Need-first-flow-requires
+first-flow-requires : tie.Need-first_flow-requires
 first-flow-requires c κs = search rules
 
 to-requires : tie.Need-to-requires
 to-requires c κs = search rules
 
-returns-3 : tie.Need-returns-3
+returns-3 : tie.Need-returns
 unfolding after_start land_of
 returns-3 c = λ s x.
     let a = c.before.before.before.before.before.before in
-    let e = simp (to_z-of_z a.ranges.v) at c.before.before.before.is-reached.ensures in
-    simp (c.to.ensures, c.before.first_flow_lem.ensures, c.before.before.if2.false, ← e, ne_eqb _ _ c.before.before.before.before.if1.false, a.requires)
+    let e = simp (to_z-of_z a.ranges.v) at c.before.before.before.is_reached.ensures in
+    simp (c.to.ensures, c.before.first_flow_lem.ensures, c.before.before.if-is_reached.false, ← e, ne_eqb _ _ c.before.before.before.before.if-p-eq0.false, a.requires)
 
 pub after_start_spec : {M : Type 1} → statement M
 after_start_spec =

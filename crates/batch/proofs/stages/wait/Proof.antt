@@ -8,19 +8,19 @@ use Rattle.outline.specs.Stages.{wait_of}
 use Rattle.batch.proofs.stages.wait.Statement.{statement}
 use Rattle.batch.proofs.stages.wait.Tie as tie
 
-returns : tie.Need-returns
+returns : tie.Need-returns-then-n-t
 unfolding wait_of
 returns c = simp (le-leb c.before.args.n (suc c.before.args.t) (omega arith))
 
-returns-2 : tie.Need-returns-2
+returns-2 : tie.Need-returns-then-n-next
 unfolding wait_of
 returns-2 c = let s = c.before.before in simp (le-leb s.args.n (suc s.args.t) (omega arith))
 
-returns-3 : tie.Need-returns-3
+returns-3 : tie.Need-returns-else-n-next
 unfolding wait_of
 returns-3 c = let s = c.before.before in simp (lt-leb s.args.n (suc s.args.t) (omega arith), add-one)
 
-add-next : tie.Need-overflow-add-next
+add-next : tie.Need-overflow_add-next
 add-next c = search rules
 
 pub wait_spec : {M : Type 1} → statement M

@@ -5,7 +5,7 @@ use Rattle.whole.specs.Machine.{wider}
 use Rattle.bench.proofs.digest.narrow.Statement.{statement}
 use Rattle.bench.proofs.digest.narrow.Tie as tie
 
-cast_signed : tie.Need-overflow-cast-signed
+cast_signed : tie.Need-overflow_cast-x
 cast_signed c = cast_need (arg c.ranges.x) (wider c.ranges.x)
 
 signed-requires : tie.Need-signed-requires

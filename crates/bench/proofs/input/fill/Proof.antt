@@ -9,28 +9,28 @@ invariant_loop bytes counts₀ i₀ counts i = length counts ≡ length counts�
 abbrev decreases_loop : tie.decreases_loop
 decreases_loop bytes counts₀ i₀ counts i = length counts₀ - i
 
-loop-holds : tie.Need-loop-init invariant_loop decreases_loop
+loop-holds : tie.Need-loop-i-init invariant_loop decreases_loop
 loop-holds c = search rules
 
-count-at-requires : tie.Need-count-at-requires invariant_loop decreases_loop
+count-at-requires : tie.Need-count_at-requires invariant_loop decreases_loop
 count-at-requires c κs = search rules
 
-mul-t4 : tie.Need-overflow-mul-t4 invariant_loop decreases_loop
+mul-t4 : tie.Need-offset_bounds-counts-i invariant_loop decreases_loop
 mul-t4 c = search rules
 
-slice-set-from-counts : tie.Need-slice-set-from-counts invariant_loop decreases_loop
+slice-set-from-counts : tie.Need-bounds-counts-i invariant_loop decreases_loop
 slice-set-from-counts c = search rules
 
-add-i : tie.Need-overflow-add-i invariant_loop decreases_loop
+add-i : tie.Need-overflow_add-i invariant_loop decreases_loop
 add-i c = search rules
 
-loop-less : tie.Need-loop-smaller invariant_loop decreases_loop
+loop-less : tie.Need-loop-i-smaller invariant_loop decreases_loop
 loop-less c = search rules
 
-loop-again : tie.Need-loop-preserved invariant_loop decreases_loop
+loop-again : tie.Need-loop-i-preserved invariant_loop decreases_loop
 loop-again c = search rules
 
-same_length : tie.Need-same-length invariant_loop decreases_loop
+same_length : tie.Need-shape_of-counts invariant_loop decreases_loop
 same_length c = search rules
 
 returns : tie.Need-returns invariant_loop decreases_loop

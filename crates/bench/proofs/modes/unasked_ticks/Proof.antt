@@ -9,31 +9,31 @@ invariant_loop s run counts contact state₀ seen₀ i₀ state seen i = (i ≤ 
 abbrev decreases_loop : tie.decreases_loop
 decreases_loop s run counts contact state₀ seen₀ i₀ state seen i = length counts - i
 
-between-requires : tie.Need-between-requires invariant_loop decreases_loop
+between-requires : tie.Need-between-state-requires invariant_loop decreases_loop
 between-requires c κs = search rules
 
-loop-holds : tie.Need-loop-init invariant_loop decreases_loop
+loop-holds : tie.Need-loop-i-init invariant_loop decreases_loop
 loop-holds c = (zero-le, c.before.before.well-formed.1.1.1.0.0)
 
-mul-count : tie.Need-overflow-mul-count invariant_loop decreases_loop
+mul-count : tie.Need-offset_bounds-counts-i invariant_loop decreases_loop
 mul-count c = search rules
 
-shared-slice-copy-out-count : tie.Need-shared-slice-copy-out-count invariant_loop decreases_loop
+shared-slice-copy-out-count : tie.Need-bounds-counts-i invariant_loop decreases_loop
 shared-slice-copy-out-count c = search rules
 
-unasked-tick-requires : tie.Need-unasked-tick-requires invariant_loop decreases_loop
+unasked-tick-requires : tie.Need-unasked_tick-ticked-requires invariant_loop decreases_loop
 unasked-tick-requires c κs = search rules
 
-looked-requires : tie.Need-looked-requires invariant_loop decreases_loop
+looked-requires : tie.Need-looked-seen-requires invariant_loop decreases_loop
 looked-requires c κs = search rules
 
-add-i : tie.Need-overflow-add-i invariant_loop decreases_loop
+add-i : tie.Need-overflow_add-i invariant_loop decreases_loop
 add-i c = search rules
 
-loop-less : tie.Need-loop-smaller invariant_loop decreases_loop
+loop-less : tie.Need-loop-i-smaller invariant_loop decreases_loop
 loop-less c = search rules
 
-loop-again : tie.Need-loop-preserved invariant_loop decreases_loop
+loop-again : tie.Need-loop-i-preserved invariant_loop decreases_loop
 loop-again c = search rules
 
 more-requires : tie.Need-more-requires invariant_loop decreases_loop

@@ -5,16 +5,16 @@ use Rattle.board.specs.AnswerImage.{length_byte}
 use Rattle.board.proofs.answer.length_byte.Statement.{statement}
 use Rattle.board.proofs.answer.length_byte.Tie as tie
 
-cast-result : tie.Need-overflow-cast-result
+cast-result : tie.Need-overflow_cast-result
 cast-result c = search rules
 
-returns : tie.Need-returns
+returns : tie.Need-returns-then-n-lt256
 unfolding length_byte
-returns c = simp (lt-ltb _ _ c.if1.true)
+returns c = simp (lt-ltb _ _ c.if-n-lt256.true)
 
-returns-2 : tie.Need-returns-2
+returns-2 : tie.Need-returns
 unfolding length_byte
-returns-2 c = simp (le-ltb _ _ c.if1.false)
+returns-2 c = simp (le-ltb _ _ c.if-n-lt256.false)
 
 pub length_byte_spec : {M : Type 1} → statement M
 length_byte_spec = tie.close (tie.spec cast-result returns returns-2)

@@ -22,37 +22,37 @@ record Signed (b : Book) : Type 0 where
 fields : (s : tie.Start) → Signed s.args.b
 fields s = record { opening = search sfits_of; last = search sfits_of; refilled = search sfits_of; used = search sfits_of; unbooked = search sfits_of }
 
-put-flag-requires : tie.Need-put-flag-requires
+put-flag-requires : tie.Need-put_flag-requires
 put-flag-requires c κs = search rules
 
-put-i32-requires : tie.Need-put-i32-requires
+put-i32-requires : tie.Need-put_i32-requires
 put-i32-requires c κs = search rules
 
-put-i32-requires-2 : tie.Need-put-i32-requires-2
+put-i32-requires-2 : tie.Need-put_i32-requires-2
 put-i32-requires-2 c κs = search rules
 
-put-i64-requires : tie.Need-put-i64-requires
+put-i64-requires : tie.Need-put_i64-requires
 put-i64-requires c κs = search rules
 
-put-i64-requires-2 : tie.Need-put-i64-requires-2
+put-i64-requires-2 : tie.Need-put_i64-requires-2
 put-i64-requires-2 c κs = search rules
 
-put-i64-requires-3 : tie.Need-put-i64-requires-3
+put-i64-requires-3 : tie.Need-put_i64-requires-3
 put-i64-requires-3 c κs = search rules
 
-same_length : tie.Need-same-length
-same_length c = search (rules, c.before.before.put-i643, c.before.before.before.before.before.before.before.put-i642, c.before.before.before.before.before.before.before.before.before.before.before.before.put-i64, c.before.before.before.before.before.before.before.before.before.before.before.before.before.before.before.before.before.put-i322, c.before.before.before.before.before.before.before.before.before.before.before.before.before.before.before.before.before.before.before.before.before.before.put-i32, c.before.before.before.before.before.before.before.before.before.before.before.before.before.before.before.before.before.before.before.before.before.before.before.before.before.before.before.put-flag)
+same_length : tie.Need-shape_of-s
+same_length c = search (rules, c.before.before.put_i64-3, c.before.before.before.before.before.before.before.put_i64-2, c.before.before.before.before.before.before.before.before.before.before.before.before.put_i64, c.before.before.before.before.before.before.before.before.before.before.before.before.before.before.before.before.before.put_i32-2, c.before.before.before.before.before.before.before.before.before.before.before.before.before.before.before.before.before.before.before.before.before.before.put_i32, c.before.before.before.before.before.before.before.before.before.before.before.before.before.before.before.before.before.before.before.before.before.before.before.before.before.before.before.put_flag)
 
 returns : tie.Need-returns
 unfolding closed_put closed_flag closed_book put_all
 returns c =
     let f = fields c.before.before.before.before.before.before.before.before.before.before.before.before.before.before.before.before.before.before.before.before.before.before.before.before.before.before.before.before.before.before in
-    let e1 = c.before.before.before.before.before.before.before.before.before.before.before.before.before.before.before.before.before.before.before.before.before.before.before.before.before.before.before.put-flag.ensures in
-    let e2 = c.before.before.before.before.before.before.before.before.before.before.before.before.before.before.before.before.before.before.before.before.before.before.put-i32.ensures ∙ (λ i. put_be 4 (coded w32 ((arg f.opening).read i)) (e1 i) 24) in
-    let e3 = c.before.before.before.before.before.before.before.before.before.before.before.before.before.before.before.before.before.put-i322.ensures ∙ (λ i. put_be 4 (coded w32 ((arg f.last).read i)) (e2 i) 28) in
-    let e4 = c.before.before.before.before.before.before.before.before.before.before.before.before.put-i64.ensures ∙ (λ i. put_be 8 (coded w64 ((arg f.refilled).read i)) (e3 i) 32) in
-    let e5 = c.before.before.before.before.before.before.before.put-i642.ensures ∙ (λ i. put_be 8 (coded w64 ((arg f.used).read i)) (e4 i) 40) in
-    c.before.before.put-i643.ensures ∙ (λ i. put_be 8 (coded w64 ((arg f.unbooked).read i)) (e5 i) 48)
+    let e1 = c.before.before.before.before.before.before.before.before.before.before.before.before.before.before.before.before.before.before.before.before.before.before.before.before.before.before.before.put_flag.ensures in
+    let e2 = c.before.before.before.before.before.before.before.before.before.before.before.before.before.before.before.before.before.before.before.before.before.before.put_i32.ensures ∙ (λ i. put_be 4 (coded w32 ((arg f.opening).read i)) (e1 i) 24) in
+    let e3 = c.before.before.before.before.before.before.before.before.before.before.before.before.before.before.before.before.before.put_i32-2.ensures ∙ (λ i. put_be 4 (coded w32 ((arg f.last).read i)) (e2 i) 28) in
+    let e4 = c.before.before.before.before.before.before.before.before.before.before.before.before.put_i64.ensures ∙ (λ i. put_be 8 (coded w64 ((arg f.refilled).read i)) (e3 i) 32) in
+    let e5 = c.before.before.before.before.before.before.before.put_i64-2.ensures ∙ (λ i. put_be 8 (coded w64 ((arg f.used).read i)) (e4 i) 40) in
+    c.before.before.put_i64-3.ensures ∙ (λ i. put_be 8 (coded w64 ((arg f.unbooked).read i)) (e5 i) 48)
 
 pub put_day_spec : {M : Type 1} → statement M
 put_day_spec =

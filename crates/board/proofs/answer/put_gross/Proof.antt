@@ -17,13 +17,13 @@ record Signed (x : Reading) : Type 0 where
 fields : (s : tie.Start) → Signed s.args.x
 fields s = record { gross = search sfits_of; net = search sfits_of }
 
-put-i32-requires : tie.Need-put-i32-requires
+put-i32-requires : tie.Need-put_i32-requires
 put-i32-requires c κs = search rules
 
-put-i32-requires-2 : tie.Need-put-i32-requires-2
+put-i32-requires-2 : tie.Need-put_i32-requires-2
 put-i32-requires-2 c κs = search rules
 
-same_length : tie.Need-same-length
+same_length : tie.Need-shape_of-s
 same_length c = search rules
 
 returns : tie.Need-returns
@@ -31,8 +31,8 @@ unfolding put_all
 returns c =
     let a = c.before.before.before.before.before.before.before.before.before.before.before in
     let f = fields a in
-    let e1 = c.before.before.before.before.before.before.before.put-i32.ensures ∙ (λ i. put_be 4 (coded w32 ((arg f.gross).read i)) a.args.s.now 16) in
-    c.before.before.put-i322.ensures ∙ (λ i. put_be 4 (coded w32 ((arg f.net).read i)) (e1 i) 20)
+    let e1 = c.before.before.before.before.before.before.before.put_i32.ensures ∙ (λ i. put_be 4 (coded w32 ((arg f.gross).read i)) a.args.s-1.now 16) in
+    c.before.before.put_i32-2.ensures ∙ (λ i. put_be 4 (coded w32 ((arg f.net).read i)) (e1 i) 20)
 
 pub put_gross_spec : {M : Type 1} → statement M
 put_gross_spec = tie.close (tie.spec put-i32-requires put-i32-requires-2 same_length returns)

@@ -9,36 +9,36 @@ use borrow.Author.Rules.{rules}
 use Rattle.board.proofs.answer.put_none.Statement.{statement}
 use Rattle.board.proofs.answer.put_none.Tie as tie
 
-put-flag-requires : tie.Need-put-flag-requires
+put-flag-requires : tie.Need-put_flag-requires
 put-flag-requires c κs = search rules
 
-put-i32-requires : tie.Need-put-i32-requires
+put-i32-requires : tie.Need-put_i32-requires
 put-i32-requires c κs = search rules
 
-put-i32-requires-2 : tie.Need-put-i32-requires-2
+put-i32-requires-2 : tie.Need-put_i32-requires-2
 put-i32-requires-2 c κs = search rules
 
-put-i64-requires : tie.Need-put-i64-requires
+put-i64-requires : tie.Need-put_i64-requires
 put-i64-requires c κs = search rules
 
-put-i64-requires-2 : tie.Need-put-i64-requires-2
+put-i64-requires-2 : tie.Need-put_i64-requires-2
 put-i64-requires-2 c κs = search rules
 
-put-i64-requires-3 : tie.Need-put-i64-requires-3
+put-i64-requires-3 : tie.Need-put_i64-requires-3
 put-i64-requires-3 c κs = search rules
 
-same_length : tie.Need-same-length
+same_length : tie.Need-shape_of-s
 same_length c = search rules
 
 returns : tie.Need-returns
 unfolding closed_put closed_flag closed_book put_all
 returns c =
-    let e1 = c.before.before.before.before.before.before.before.before.before.before.before.before.before.before.before.before.before.before.before.before.before.before.put-flag.ensures in
-    let e2 = c.before.before.before.before.before.before.before.before.before.before.before.before.before.before.before.before.before.before.put-i32.ensures ∙ (λ i. put_be 4 (coded w32 (pos 0)) (e1 i) 24) in
-    let e3 = c.before.before.before.before.before.before.before.before.before.before.before.before.before.before.put-i322.ensures ∙ (λ i. put_be 4 (coded w32 (pos 0)) (e2 i) 28) in
-    let e4 = c.before.before.before.before.before.before.before.before.before.before.put-i64.ensures ∙ (λ i. put_be 8 (coded w64 (pos 0)) (e3 i) 32) in
-    let e5 = c.before.before.before.before.before.before.put-i642.ensures ∙ (λ i. put_be 8 (coded w64 (pos 0)) (e4 i) 40) in
-    c.before.before.put-i643.ensures ∙ (λ i. put_be 8 (coded w64 (pos 0)) (e5 i) 48)
+    let e1 = c.before.before.before.before.before.before.before.before.before.before.before.before.before.before.before.before.before.before.before.before.before.before.put_flag.ensures in
+    let e2 = c.before.before.before.before.before.before.before.before.before.before.before.before.before.before.before.before.before.before.put_i32.ensures ∙ (λ i. put_be 4 (coded w32 (pos 0)) (e1 i) 24) in
+    let e3 = c.before.before.before.before.before.before.before.before.before.before.before.before.before.before.put_i32-2.ensures ∙ (λ i. put_be 4 (coded w32 (pos 0)) (e2 i) 28) in
+    let e4 = c.before.before.before.before.before.before.before.before.before.before.put_i64.ensures ∙ (λ i. put_be 8 (coded w64 (pos 0)) (e3 i) 32) in
+    let e5 = c.before.before.before.before.before.before.put_i64-2.ensures ∙ (λ i. put_be 8 (coded w64 (pos 0)) (e4 i) 40) in
+    c.before.before.put_i64-3.ensures ∙ (λ i. put_be 8 (coded w64 (pos 0)) (e5 i) 48)
 
 pub put_none_spec : {M : Type 1} → statement M
 put_none_spec =

@@ -5,20 +5,20 @@ use Rattle.places.specs.Places.{put_be, put_all}
 use Rattle.board.proofs.answer.put_value.Statement.{statement}
 use Rattle.board.proofs.answer.put_value.Tie as tie
 
-analog-bits-requires : tie.Need-analog-bits-requires
+analog-bits-requires : tie.Need-analog_bits-requires
 analog-bits-requires c κs = search rules
 
-put-u64-requires : tie.Need-put-u64-requires
+put-u64-requires : tie.Need-put_u64-requires
 put-u64-requires c κs = search rules
 
-same_length : tie.Need-same-length
+same_length : tie.Need-shape_of-s
 same_length c = search rules
 
 returns : tie.Need-returns
 unfolding put_all
 returns c =
     let a = c.before.before.before.before.before.before in
-    c.before.before.put-u64.ensures ∙ (λ i. put_be 8 (c.before.before.before.analog-bits.ensures i) a.args.s.now 56)
+    c.before.before.put_u64.ensures ∙ (λ i. put_be 8 (c.before.before.before.analog_bits.ensures i) a.args.s-1.now 56)
 
 pub put_value_spec : {M : Type 1} → statement M
 put_value_spec = tie.close (tie.spec analog-bits-requires put-u64-requires same_length returns)

@@ -5,29 +5,29 @@ use Rattle.places.specs.Places.{put_be, put_all, flag_tag}
 use Rattle.board.proofs.answer.put_weights.Statement.{statement}
 use Rattle.board.proofs.answer.put_weights.Tie as tie
 
-put-u8-requires : tie.Need-put-u8-requires
+put-u8-requires : tie.Need-put_u8-requires
 put-u8-requires c κs = search rules
 
-put-flag-requires : tie.Need-put-flag-requires
+put-flag-requires : tie.Need-put_flag-requires
 put-flag-requires c κs = search rules
 
-put-flag-requires-2 : tie.Need-put-flag-requires-2
+put-flag-requires-2 : tie.Need-put_flag-requires-2
 put-flag-requires-2 c κs = search rules
 
-put-flag-requires-3 : tie.Need-put-flag-requires-3
+put-flag-requires-3 : tie.Need-put_flag-requires-3
 put-flag-requires-3 c κs = search rules
 
-same_length : tie.Need-same-length
+same_length : tie.Need-shape_of-s
 same_length c = search rules
 
 returns : tie.Need-returns
 unfolding put_all
 returns c =
     let a = c.before.before.before.before.before.before.before.before.before.before.before.before.before.before.before.before.before in
-    let e1 = c.before.before.before.before.before.before.before.before.before.before.before.before.before.before.put-u8.ensures in
-    let e2 = c.before.before.before.before.before.before.before.before.before.before.put-flag.ensures ∙ (λ i. put_be 1 (flag_tag a.args.x.good) (e1 i) 1) in
-    let e3 = c.before.before.before.before.before.before.put-flag2.ensures ∙ (λ i. put_be 1 (flag_tag a.args.x.overload) (e2 i) 2) in
-    c.before.before.put-flag3.ensures ∙ (λ i. put_be 1 (flag_tag a.args.x.stable) (e3 i) 3)
+    let e1 = c.before.before.before.before.before.before.before.before.before.before.before.before.before.before.put_u8.ensures in
+    let e2 = c.before.before.before.before.before.before.before.before.before.before.put_flag.ensures ∙ (λ i. put_be 1 (flag_tag a.args.x.good) (e1 i) 1) in
+    let e3 = c.before.before.before.before.before.before.put_flag-2.ensures ∙ (λ i. put_be 1 (flag_tag a.args.x.overload) (e2 i) 2) in
+    c.before.before.put_flag-3.ensures ∙ (λ i. put_be 1 (flag_tag a.args.x.stable) (e3 i) 3)
 
 pub put_weights_spec : {M : Type 1} → statement M
 put_weights_spec =

@@ -8,13 +8,13 @@ use borrow.Author.Rules.{rules}
 use Rattle.board.proofs.steps.again.Statement.{statement}
 use Rattle.board.proofs.steps.again.Tie as tie
 
-stability-at-requires : tie.Need-stability-at-requires
+stability-at-requires : tie.Need-stability_at-stability-requires
 stability-at-requires c κs = search rules
 
-weighing-at-requires : tie.Need-weighing-at-requires
+weighing-at-requires : tie.Need-weighing_at-weighing-requires
 weighing-at-requires c κs = search rules
 
-raw-again-requires : tie.Need-raw-again-requires
+raw-again-requires : tie.Need-raw_again-requires
 raw-again-requires c κs = search rules
 
 weigh-requires : tie.Need-weigh-requires
@@ -24,8 +24,8 @@ returns : tie.Need-returns
 unfolding weights_of
 returns c st h =
     let a = c.before.before.before.before.before.args in
-    let q = read_part (λ (t : State). t.stability) c.before.before.before.stability-at.ensures h in
-    let w = read_part (λ (t : State). t.weighing) c.before.before.weighing-at.ensures h in
+    let q = read_part (λ (t : State). t.stability) c.before.before.before.stability_at-stability.ensures h in
+    let w = read_part (λ (t : State). t.weighing) c.before.before.weighing_at-weighing.ensures h in
     c.weigh.ensures ∙ (λ i. weigh_of a.s (q i) (w i) (c.before.raw_again.ensures i) a.x.contact)
 
 pub again_spec : {M : Type 1} → statement M

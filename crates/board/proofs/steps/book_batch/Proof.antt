@@ -7,31 +7,31 @@ use borrow.Author.Rules.{rules}
 use Rattle.board.proofs.steps.book_batch.Statement.{statement}
 use Rattle.board.proofs.steps.book_batch.Tie as tie
 
-totals-at-requires : tie.Need-totals-at-requires
+totals-at-requires : tie.Need-totals_at-totals-requires
 totals-at-requires c κs = search rules
 
-booked-sequence-requires : tie.Need-booked-sequence-requires
+booked-sequence-requires : tie.Need-booked_sequence-requires
 booked-sequence-requires c κs = search rules
 
-put-sequence-requires : tie.Need-put-sequence-requires
+put-sequence-requires : tie.Need-put_sequence-requires
 put-sequence-requires c κs = search rules
 
-booked-totals-requires : tie.Need-booked-totals-requires
+booked-totals-requires : tie.Need-booked_totals-requires
 booked-totals-requires c κs = search rules
 
-put-totals-requires : tie.Need-put-totals-requires
+put-totals-requires : tie.Need-put_totals-requires
 put-totals-requires c κs = search rules
 
-same_length : tie.Need-same-length
+same_length : tie.Need-shape_of-state
 same_length c = search rules
 
 returns : tie.Need-returns
 returns c st h =
     let start = c.before.before.before.before.before.before.before.before.before.before.before.before.before in
-    let t = read_part (λ (t : State). t.totals) c.before.before.before.before.before.before.before.before.before.before.totals-at.ensures h in
-    let es = by_totals _ _ _ t (simp (to_z-of_z start.ranges.v) at c.before.before.before.before.before.before.before.before.booked-sequence.ensures) in
-    let et = booked_by _ _ t (simp (to_z-of_z start.ranges.v) at c.before.before.before.booked-totals.ensures) in
-    held_as (λ i. with_totals (with_sequence st (es i)) (et i)) (c.before.before.put-totals.ensures.0 _ (c.before.before.before.before.before.before.before.put-sequence.ensures.0 st h))
+    let t = read_part (λ (t : State). t.totals) c.before.before.before.before.before.before.before.before.before.before.totals_at-totals.ensures h in
+    let es = by_totals _ _ _ t (simp (to_z-of_z start.ranges.v) at c.before.before.before.before.before.before.before.before.booked_sequence.ensures) in
+    let et = booked_by _ _ t (simp (to_z-of_z start.ranges.v) at c.before.before.before.booked_totals.ensures) in
+    held_as (λ i. with_totals (with_sequence st (es i)) (et i)) (c.before.before.put_totals.ensures.0 _ (c.before.before.before.before.before.before.before.put_sequence.ensures.0 st h))
 
 pub book_batch_spec : {M : Type 1} → statement M
 book_batch_spec =

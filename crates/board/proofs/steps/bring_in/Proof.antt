@@ -6,37 +6,37 @@ use borrow.Author.Rules.{rules}
 use Rattle.board.proofs.steps.bring_in.Statement.{statement}
 use Rattle.board.proofs.steps.bring_in.Tie as tie
 
-waiting-at-requires : tie.Need-waiting-at-requires
+waiting-at-requires : tie.Need-waiting_at-waiting-requires
 waiting-at-requires c κs = search rules
 
-enum_told : tie.Need-enum-told
+enum_told : tie.Need-enum_told-1
 enum_told c = search rules
 
-same_length : tie.Need-same-length
+same_length : tie.Need-shape_of-state-in-Nothing
 same_length c = search rules
 
-returns : tie.Need-returns
+returns : tie.Need-returns-in-Nothing
 returns c st h =
-    let w = read_waiting c.before.before.waiting-at.ensures h in
-    held_as (came_none st (ap (λ (x : Waiting). x.write) (sym w) ∙ c.enum_told.given.1)) h
+    let w = read_waiting c.before.before.waiting_at-waiting.ensures h in
+    held_as (came_none st (ap (λ (x : Waiting). x.write-1) (sym w) ∙ c.enum_told-1.given.1)) h
 
-enum-known-write : tie.Need-enum-known-write
+enum-known-write : tie.Need-enum_known-write
 enum-known-write c = search rules
 
-put-setpoints-requires : tie.Need-put-setpoints-requires
+put-setpoints-requires : tie.Need-put_setpoints-requires
 put-setpoints-requires c κs = search rules
 
-clear-waiting-requires : tie.Need-clear-waiting-requires
+clear-waiting-requires : tie.Need-clear_waiting-requires
 clear-waiting-requires c κs = search rules
 
-same-length-2 : tie.Need-same-length-2
+same-length-2 : tie.Need-shape_of-state-in-Points
 same-length-2 c = search rules
 
-returns-2 : tie.Need-returns-2
+returns-2 : tie.Need-returns-in-Points
 returns-2 c st h =
-    let w = read_waiting c.before.before.before.before.before.before.before.before.before.before.before.waiting-at.ensures h in
-    held_as (came_points st _ (ap (λ (x : Waiting). x.write) (sym w) ∙ c.before.before.before.before.before.before.before.before.before.write.given.1))
-    (c.before.before.clear-waiting.ensures.0 _ (c.before.before.before.before.before.before.put-setpoints.ensures.0 st h))
+    let w = read_waiting c.before.before.before.before.before.before.before.before.before.before.before.waiting_at-waiting.ensures h in
+    held_as (came_points st _ (ap (λ (x : Waiting). x.write-1) (sym w) ∙ c.before.before.before.before.before.before.before.before.before.write-1.given.1))
+    (c.before.before.clear_waiting.ensures.0 _ (c.before.before.before.before.before.before.put_setpoints.ensures.0 st h))
 
 pub bring_in_spec : {M : Type 1} → statement M
 bring_in_spec =

@@ -11,28 +11,28 @@ use borrow.Author.Rules.{rules}
 use Rattle.board.proofs.steps.close.Statement.{statement}
 use Rattle.board.proofs.steps.close.Tie as tie
 
-book-at-requires : tie.Need-book-at-requires
+book-at-requires : tie.Need-book_at-day-requires
 book-at-requires c κs = search rules
 
-put-day-requires : tie.Need-put-day-requires
+put-day-requires : tie.Need-put_day-requires
 put-day-requires c κs = search rules
 
-closed-book-requires : tie.Need-closed-book-requires
+closed-book-requires : tie.Need-closed_book-requires
 closed-book-requires c κs = search rules
 
-put-book-requires : tie.Need-put-book-requires
+put-book-requires : tie.Need-put_book-requires
 put-book-requires c κs = search rules
 
-same_length : tie.Need-same-length
+same_length : tie.Need-shape_of-state
 same_length c = search rules
 
-same-length-2 : tie.Need-same-length-2
+same-length-2 : tie.Need-shape_of-answer
 same-length-2 c = search rules
 
 returns : tie.Need-returns
 returns c = (
-  (λ st h. held_as (λ i. with_book st ((c.before.before.before.closed-book.ensures ∙ ap closed_of (read_part (λ (t : State). t.book) c.before.before.before.before.before.before.before.before.before.book-at.ensures h)) i)) (c.before.before.put-book.ensures.0 st h)),
-  (λ st h. c.before.before.before.before.before.before.before.put-day.ensures ∙ ap (λ (b : Book). closed_put (closed.Day b) c.before.before.before.before.before.before.before.before.before.before.before.before.before.args.answer.now) (read_part (λ (t : State). t.book) c.before.before.before.before.before.before.before.before.before.book-at.ensures h)),
+  (λ st h. held_as (λ i. with_book st ((c.before.before.before.closed_book.ensures ∙ ap closed_of (read_part (λ (t : State). t.book) c.before.before.before.before.before.before.before.before.before.book_at-day.ensures h)) i)) (c.before.before.put_book.ensures.0 st h)),
+  (λ st h. c.before.before.before.before.before.before.before.put_day.ensures ∙ ap (λ (b : Book). closed_put (closed.Day b) c.before.before.before.before.before.before.before.before.before.before.before.before.before.args.answer-1.now) (read_part (λ (t : State). t.book) c.before.before.before.before.before.before.before.before.before.book_at-day.ensures h)),
 )
 
 pub close_spec : {M : Type 1} → statement M

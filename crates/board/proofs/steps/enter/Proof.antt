@@ -20,59 +20,59 @@ start c = c.before.before.before.before.before.before.before.before.before.befor
 
 -- what the parts made come to
 record Made (c : tie.After-weigh) (st : State) : Type 0 where
-  raw : c.before.before.before.before.before.before.before.before.before.before.before.before.before.before.before.before.before.before.raw_of.result ≡ raw_of (start c).args.s.calibration (start c).args.count
-  steadied : c.before.before.before.before.before.before.before.before.before.before.steadied.result ≡ steadied_of (start c).args.s.steadiness st.stability st.book.last (raw_of (start c).args.s.calibration (start c).args.count)
-  booked : c.before.before.before.before.before.before.before.before.book-tick.result ≡ book_of st.book (raw_of (start c).args.s.calibration (start c).args.count) (start c).args.contact
+  raw : c.before.before.before.before.before.before.before.before.before.before.before.before.before.before.before.before.before.before.raw_of-raw.result ≡ raw_of (start c).args.s.calibration (start c).args.count
+  steadied : c.before.before.before.before.before.before.before.before.before.before.steadied-steadied.result ≡ steadied_of (start c).args.s.steadiness st.stability st.book.last (raw_of (start c).args.s.calibration (start c).args.count)
+  booked : c.before.before.before.before.before.before.before.before.book_tick.result ≡ book_of st.book (raw_of (start c).args.s.calibration (start c).args.count) (start c).args.contact
 
-made : (c : tie.After-weigh) (st : State) → Holds (start c).args.state.now st → Made c st
+made : (c : tie.After-weigh) (st : State) → Holds (start c).args.state-1.now st → Made c st
 made c st h =
     let a = (start c).args in
-    let er = simp (to_z-of_z (start c).ranges.count) at c.before.before.before.before.before.before.before.before.before.before.before.before.before.before.before.before.before.before.raw_of.ensures in
-    let b = read_part (λ (t : State). t.book) c.before.before.before.before.before.before.before.before.before.before.before.before.before.before.before.before.book-at.ensures h in
-    let q = read_part (λ (t : State). t.stability) c.before.before.before.before.before.before.before.before.before.before.before.before.before.before.stability-at.ensures h in
-    let last : SFits w32 c.before.before.before.before.before.before.before.before.before.before.before.before.before.before.before.before.book-at.result.last = search (sfits_of, c.before.before.before.before.before.before.before.before.before.before.before.struct_told.given) in
+    let er = simp (to_z-of_z (start c).ranges.count) at c.before.before.before.before.before.before.before.before.before.before.before.before.before.before.before.before.before.before.raw_of-raw.ensures in
+    let b = read_part (λ (t : State). t.book) c.before.before.before.before.before.before.before.before.before.before.before.before.before.before.before.before.book_at-book.ensures h in
+    let q = read_part (λ (t : State). t.stability) c.before.before.before.before.before.before.before.before.before.before.before.before.before.before.stability_at-stability.ensures h in
+    let last : SFits w32 c.before.before.before.before.before.before.before.before.before.before.before.before.before.before.before.before.book_at-book.result.last = search (sfits_of, c.before.before.before.before.before.before.before.before.before.before.before.struct_told-1.given) in
     record {
       raw = er;
-      steadied = simp (to_z-of_z last) at c.before.before.before.before.before.before.before.before.before.before.steadied.ensures ∙ (λ i. steadied_of a.s.steadiness (q i) (b i).last (er i));
-      booked = c.before.before.before.before.before.before.before.before.book-tick.ensures ∙ (λ i. book_of (b i) (er i) a.contact);
+      steadied = simp (to_z-of_z last) at c.before.before.before.before.before.before.before.before.before.before.steadied-steadied.ensures ∙ (λ i. steadied_of a.s.steadiness (q i) (b i).last (er i));
+      booked = c.before.before.before.before.before.before.before.before.book_tick.ensures ∙ (λ i. book_of (b i) (er i) a.contact);
     }
 
-raw_of-requires : tie.Need-raw_of-requires
+raw_of-requires : tie.Need-raw_of-raw-requires
 raw_of-requires c κs = search rules
 
-book-at-requires : tie.Need-book-at-requires
+book-at-requires : tie.Need-book_at-book-requires
 book-at-requires c κs = search rules
 
-stability-at-requires : tie.Need-stability-at-requires
+stability-at-requires : tie.Need-stability_at-stability-requires
 stability-at-requires c κs = search rules
 
-weighing-at-requires : tie.Need-weighing-at-requires
+weighing-at-requires : tie.Need-weighing_at-weighing-requires
 weighing-at-requires c κs = search rules
 
-steadied-requires : tie.Need-steadied-requires
+steadied-requires : tie.Need-steadied-steadied-requires
 steadied-requires c κs = search rules
 
-book-tick-requires : tie.Need-book-tick-requires
+book-tick-requires : tie.Need-book_tick-requires
 book-tick-requires c κs = search rules
 
-put-book-requires : tie.Need-put-book-requires
+put-book-requires : tie.Need-put_book-requires
 put-book-requires c κs = search rules
 
-put-stability-requires : tie.Need-put-stability-requires
+put-stability-requires : tie.Need-put_stability-requires
 put-stability-requires c κs = search rules
 
 weigh-requires : tie.Need-weigh-requires
 weigh-requires c κs = search rules
 
-same_length : tie.Need-same-length
+same_length : tie.Need-shape_of-state
 same_length c = search rules
 
 returns : tie.Need-returns
 unfolding entered_of weights_of
 returns c =
     let a = (start c).args in (
-      (λ st h. held_as (λ i. with_stability (with_book st ((made c st h).booked i)) ((made c st h).steadied i)) (c.before.before.before.put-stability.ensures.0 _ (c.before.before.before.before.before.before.before.put-book.ensures.0 st h))),
-      (λ st h. c.weigh.ensures ∙ (λ i. weigh_of a.s ((made c st h).steadied i) (read_part (λ (t : State). t.weighing) c.before.before.before.before.before.before.before.before.before.before.before.before.weighing-at.ensures h i) ((made c st h).raw i) a.contact)),
+      (λ st h. held_as (λ i. with_stability (with_book st ((made c st h).booked i)) ((made c st h).steadied-steadied i)) (c.before.before.before.put_stability.ensures.0 _ (c.before.before.before.before.before.before.before.put_book.ensures.0 st h))),
+      (λ st h. c.weigh.ensures ∙ (λ i. weigh_of a.s ((made c st h).steadied-steadied i) (read_part (λ (t : State). t.weighing) c.before.before.before.before.before.before.before.before.before.before.before.before.weighing_at-weighing.ensures h i) ((made c st h).raw i) a.contact)),
     )
 
 pub enter_spec : {M : Type 1} → statement M

@@ -4,26 +4,26 @@ use borrow.Author.Rules.{rules}
 use Rattle.board.proofs.steps.is_held.Statement.{statement}
 use Rattle.board.proofs.steps.is_held.Tie as tie
 
-enum_told : tie.Need-enum-told
+enum_told : tie.Need-enum_told-1
 enum_told c = search rules
 
-enum-told-2 : tie.Need-enum-told-2
+enum-told-2 : tie.Need-enum_told-in-Stop
 enum-told-2 c = search rules
 
-enum-told-3 : tie.Need-enum-told-3
+enum-told-3 : tie.Need-enum_told-in-Discharge
 enum-told-3 c = search rules
 
-returns : tie.Need-returns
+returns : tie.Need-returns-in-Start
 returns c = search rules
 
-returns-2 : tie.Need-returns-2
+returns-2 : tie.Need-returns-in-Stop
 returns-2 c = search rules
 
-returns-3 : tie.Need-returns-3
+returns-3 : tie.Need-returns-in-Discharge
 returns-3 c = search rules
 
-returns-4 : tie.Need-returns-4
-returns-4 c = not_held c.before.args.d c.match.keys4
+returns-4 : tie.Need-returns-in_default
+returns-4 c = not_held c.before.args.d c.in_default.keys4
 
 pub is_held_spec : {M : Type 1} → statement M
 is_held_spec =

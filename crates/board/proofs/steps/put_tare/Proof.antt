@@ -9,24 +9,24 @@ use borrow.Author.Rules.{rules}
 use Rattle.board.proofs.steps.put_tare.Statement.{statement}
 use Rattle.board.proofs.steps.put_tare.Tie as tie
 
-weighing-at-requires : tie.Need-weighing-at-requires
+weighing-at-requires : tie.Need-weighing_at-weighing-requires
 weighing-at-requires c κs = search rules
 
 tared-requires : tie.Need-tared-requires
 tared-requires c κs = search rules
 
-put-weighing-requires : tie.Need-put-weighing-requires
+put-weighing-requires : tie.Need-put_weighing-requires
 put-weighing-requires c κs = search rules
 
-same_length : tie.Need-same-length
+same_length : tie.Need-shape_of-state
 same_length c = search rules
 
 returns : tie.Need-returns
 returns c st h =
     let start = c.before.before.before.before.before.before.before.before in
-    let w = read_part (λ (t : State). t.weighing) c.before.before.before.before.before.weighing-at.ensures h in
+    let w = read_part (λ (t : State). t.weighing) c.before.before.before.before.before.weighing_at-weighing.ensures h in
     let e = simp (to_z-of_z start.ranges.tare) at c.before.before.before.tared.ensures ∙ (λ i. tared_of (w i) start.args.tare) in
-    held_as (λ i. with_weighing st (e i)) (c.before.before.put-weighing.ensures.0 st h)
+    held_as (λ i. with_weighing st (e i)) (c.before.before.put_weighing.ensures.0 st h)
 
 pub put_tare_spec : {M : Type 1} → statement M
 put_tare_spec =

@@ -13,53 +13,53 @@ use borrow.Author.Rules.{rules}
 use Rattle.board.proofs.steps.reply.Statement.{statement}
 use Rattle.board.proofs.steps.reply.Tie as tie
 
-abbrev start : tie.After-slice-known2 → tie.Start
+abbrev start : tie.After-slice_known-2-1 → tie.Start
 start c = c.before.before.before.before.before.before.before.before.before.before.before.before.before.before
 
-due : (c : tie.After-slice-known2) (st : State) → Holds (start c).args.state.now st → c.before.before.before.before.reply-due.result ≡ reply_due (start c).args.command st (reading_of (start c).args.x) (start c).args.outcome
+due : (c : tie.After-slice_known-2-1) (st : State) → Holds (start c).args.state.now st → c.before.before.before.before.reply_due-due.result ≡ reply_due (start c).args.command st (reading_of (start c).args.x) (start c).args.outcome
 due c st h =
     let a = (start c).args in
-    c.before.before.before.before.reply-due.ensures
-    ∙ due_shown _ st _ a.outcome (read_part (λ (t : State). t.panel) c.before.before.before.before.before.before.before.before.before.before.before.panel-at.ensures h) (read_part (λ (t : State). t.totals) c.before.before.before.before.before.before.before.before.totals-at.ensures h)
-    (read_part (λ (t : State). t.setpoints) c.before.before.before.before.before.before.before.before.before.before.setpoints-at.ensures h)
-    (read_waiting c.before.before.before.before.before.before.before.before.before.waiting-at.ensures h) a.command
-    ∙ ap (λ (x : Reading). reply_due a.command st x a.outcome) c.before.before.before.before.before.reading.ensures
+    c.before.before.before.before.reply_due-due.ensures
+    ∙ due_shown _ st _ a.outcome (read_part (λ (t : State). t.panel) c.before.before.before.before.before.before.before.before.before.before.before.panel_at-panel.ensures h) (read_part (λ (t : State). t.totals) c.before.before.before.before.before.before.before.before.totals_at-totals.ensures h)
+    (read_part (λ (t : State). t.setpoints) c.before.before.before.before.before.before.before.before.before.before.setpoints_at-setpoints.ensures h)
+    (read_waiting c.before.before.before.before.before.before.before.before.before.waiting_at-waiting.ensures h) a.command
+    ∙ ap (λ (x : Reading). reply_due a.command st x a.outcome) c.before.before.before.before.before.reading-reading.ensures
 
-panel-at-requires : tie.Need-panel-at-requires
+panel-at-requires : tie.Need-panel_at-panel-requires
 panel-at-requires c κs = search rules
 
-setpoints-at-requires : tie.Need-setpoints-at-requires
+setpoints-at-requires : tie.Need-setpoints_at-setpoints-requires
 setpoints-at-requires c κs = search rules
 
-waiting-at-requires : tie.Need-waiting-at-requires
+waiting-at-requires : tie.Need-waiting_at-waiting-requires
 waiting-at-requires c κs = search rules
 
-totals-at-requires : tie.Need-totals-at-requires
+totals-at-requires : tie.Need-totals_at-totals-requires
 totals-at-requires c κs = search rules
 
-open-book-requires : tie.Need-open-book-requires
+open-book-requires : tie.Need-open_book-requires
 open-book-requires c κs = search rules
 
-open-sequence-requires : tie.Need-open-sequence-requires
+open-sequence-requires : tie.Need-open_sequence-requires
 open-sequence-requires c κs = search rules
 
-reading-requires : tie.Need-reading-requires
+reading-requires : tie.Need-reading-reading-requires
 reading-requires c κs = search rules
 
-reply-due-requires : tie.Need-reply-due-requires
+reply-due-requires : tie.Need-reply_due-due-requires
 reply-due-requires c κs = search rules
 
-write-reply-requires : tie.Need-write-reply-requires
+write-reply-requires : tie.Need-write_reply-requires
 write-reply-requires c κs = search rules
 
-same_length : tie.Need-same-length
+same_length : tie.Need-shape_of-reply
 same_length c = search rules
 
 returns : tie.Need-returns
 returns c =
     let a = (start c).args in (
-      (λ st h. c.before.before.write-reply.ensures.0 ∙ ap (λ (r : Reply). wrote_of (reply_text a.s.address r) a.reply.now) (due c st h)),
-      (λ st h. c.before.before.write-reply.ensures.1 ∙ ap (λ (r : Reply). written_of (reply_text a.s.address r) a.reply.now) (due c st h)),
+      (λ st h. c.before.before.write_reply.ensures.0 ∙ ap (λ (r : Reply). wrote_of (reply_text a.s.address r) a.reply-1.now) (due c st h)),
+      (λ st h. c.before.before.write_reply.ensures.1 ∙ ap (λ (r : Reply). written_of (reply_text a.s.address r) a.reply-1.now) (due c st h)),
     )
 
 pub reply_spec : {M : Type 1} → statement M

@@ -7,10 +7,10 @@ use borrow.Author.Rules.{rules}
 use Rattle.board.proofs.steps.ruled.Statement.{statement}
 use Rattle.board.proofs.steps.ruled.Tie as tie
 
-sequence-at-requires : tie.Need-sequence-at-requires
+sequence-at-requires : tie.Need-sequence_at-sequence-requires
 sequence-at-requires c κs = search rules
 
-totals-at-requires : tie.Need-totals-at-requires
+totals-at-requires : tie.Need-totals_at-totals-requires
 totals-at-requires c κs = search rules
 
 ruling-requires : tie.Need-ruling-requires
@@ -20,9 +20,9 @@ returns : tie.Need-returns
 unfolding ruling_of
 returns c st h =
     let a = c.before.before.before.before.before.args in
-    let q = read_part (λ (t : State). t.sequence) c.before.before.sequence-at.ensures h in
-    let t = read_part (λ (t : State). t.totals) c.before.totals-at.ensures h in
-    c.ruling.ensures ∙ (λ i. first_of (rows_to a.s.range a.s.batching.mode (q i) (t i) a.x a.request))
+    let q = read_part (λ (t : State). t.sequence) c.before.before.sequence_at-sequence.ensures h in
+    let t = read_part (λ (t : State). t.totals) c.before.totals_at-totals.ensures h in
+    c.ruling.ensures ∙ (λ i. first_of (rows_to a.s.range a.s.batching-1.mode (q i) (t i) a.x a.request))
 
 pub ruled_spec : {M : Type 1} → statement M
 ruled_spec = tie.close (tie.spec sequence-at-requires totals-at-requires ruling-requires returns)

@@ -24,259 +24,259 @@ gross : (s : tie.Start) → SFits w32 s.args.x.gross
 gross s = search (sfits_of, s.well-formed.1.0)
 
 abbrev leaving : Settled → State
-leaving a = a.state
+leaving a = a.state-1
 
 -- the answer with the day that was closed
 abbrev closing : List ℕ → Settled → List ℕ
 closing l a = closed_put a.closed l
 
-put-none-requires : tie.Need-put-none-requires
+put-none-requires : tie.Need-put_none-requires
 put-none-requires c κs = search rules
 
-enum_told : tie.Need-enum-told
+enum_told : tie.Need-enum_told-1
 enum_told c = search rules
 
-same_length : tie.Need-same-length
+same_length : tie.Need-shape_of-answer-in-Nothing
 same_length c = search rules
 
-returns : tie.Need-returns
+returns : tie.Need-returns-in-Nothing
 returns c =
     let start = c.before.before.before.before.before.before.before.before in
-    let told = ap beside_batch c.enum_told.given.1 in
+    let told = ap beside_batch c.enum_told-1.given.1 in
     let x = start.args.x in (
       (λ st h. held_as (ap leaving (left_nothing st x _ told)) h),
-      (λ st h. c.before.before.before.before.put-none.ensures ∙ ap (closing start.args.answer.now) (left_nothing st x _ told)),
+      (λ st h. c.before.before.before.before.put_none.ensures ∙ ap (closing start.args.answer-1.now) (left_nothing st x _ told)),
     )
 
-enum-told-2 : tie.Need-enum-told-2
+enum-told-2 : tie.Need-enum_told-in-Zero
 enum-told-2 c = search rules
 
-key-zero-requires : tie.Need-key-zero-requires
+key-zero-requires : tie.Need-key_zero-requires
 key-zero-requires c κs = search rules
 
-same-length-2 : tie.Need-same-length-2
+same-length-2 : tie.Need-shape_of-state-in-Zero
 same-length-2 c = search rules
 
-same-length-3 : tie.Need-same-length-3
+same-length-3 : tie.Need-shape_of-answer-in-Zero
 same-length-3 c = search rules
 
-returns-2 : tie.Need-returns-2
+returns-2 : tie.Need-returns-in-Zero
 returns-2 c =
     let start = c.before.before.before.before.before.before.before.before.before.before.before.before.before in
-    let told = ap beside_batch c.before.before.before.before.before.enum-told2.given.1 in
+    let told = ap beside_batch c.before.before.before.before.before.enum_told-in-Zero-1.given.1 in
     let x = start.args.x in (
-      (λ st h. held_as (ap leaving (left_zero st x _ told _ refl)) (simp (to_z-of_z (raw start)) at (c.before.before.key-zero.ensures st h))),
-      (λ st h. c.before.before.before.before.before.before.before.before.before.put-none.ensures ∙ ap (closing start.args.answer.now) (left_zero st x _ told _ refl)),
+      (λ st h. held_as (ap leaving (left_zero st x _ told _ refl)) (simp (to_z-of_z (raw start)) at (c.before.before.key_zero.ensures st h))),
+      (λ st h. c.before.before.before.before.before.before.before.before.before.put_none.ensures ∙ ap (closing start.args.answer-1.now) (left_zero st x _ told _ refl)),
     )
 
-enum-told-3 : tie.Need-enum-told-3
+enum-told-3 : tie.Need-enum_told-in-Tare
 enum-told-3 c = search rules
 
-put-tare-requires : tie.Need-put-tare-requires
+put-tare-requires : tie.Need-put_tare-requires
 put-tare-requires c κs = search rules
 
-same-length-4 : tie.Need-same-length-4
+same-length-4 : tie.Need-shape_of-state-in-Tare
 same-length-4 c = search rules
 
-same-length-5 : tie.Need-same-length-5
+same-length-5 : tie.Need-shape_of-answer-in-Tare
 same-length-5 c = search rules
 
-returns-3 : tie.Need-returns-3
+returns-3 : tie.Need-returns-in-Tare
 returns-3 c =
     let start = c.before.before.before.before.before.before.before.before.before.before.before.before.before in
-    let told = ap beside_batch c.before.before.before.before.before.enum-told3.given.1 in
+    let told = ap beside_batch c.before.before.before.before.before.enum_told-in-Tare-1.given.1 in
     let x = start.args.x in (
-      (λ st h. held_as (ap leaving (left_tare st x _ told _ refl)) (simp (to_z-of_z (gross start)) at (c.before.before.put-tare.ensures st h))),
-      (λ st h. c.before.before.before.before.before.before.before.before.before.put-none.ensures ∙ ap (closing start.args.answer.now) (left_tare st x _ told _ refl)),
+      (λ st h. held_as (ap leaving (left_tare st x _ told _ refl)) (simp (to_z-of_z (gross start)) at (c.before.before.put_tare.ensures st h))),
+      (λ st h. c.before.before.before.before.before.before.before.before.before.put_none.ensures ∙ ap (closing start.args.answer-1.now) (left_tare st x _ told _ refl)),
     )
 
-enum-told-4 : tie.Need-enum-told-4
+enum-told-4 : tie.Need-enum_told-in-TareClear
 enum-told-4 c = search rules
 
-put-tare-requires-2 : tie.Need-put-tare-requires-2
+put-tare-requires-2 : tie.Need-put_tare-requires-in-TareClear
 put-tare-requires-2 c κs = search rules
 
-same-length-6 : tie.Need-same-length-6
+same-length-6 : tie.Need-shape_of-state-in-TareClear
 same-length-6 c = search rules
 
-same-length-7 : tie.Need-same-length-7
+same-length-7 : tie.Need-shape_of-answer-in-TareClear
 same-length-7 c = search rules
 
-returns-4 : tie.Need-returns-4
+returns-4 : tie.Need-returns-in-TareClear
 returns-4 c =
     let start = c.before.before.before.before.before.before.before.before.before.before.before.before in
-    let told = ap beside_batch c.before.before.before.before.enum-told4.given.1 in
+    let told = ap beside_batch c.before.before.before.before.enum_told-in-TareClear-1.given.1 in
     let x = start.args.x in (
-      (λ st h. held_as (ap leaving (left_tare_clear st x _ told _ refl)) (c.before.before.put-tare2.ensures st h)),
-      (λ st h. c.before.before.before.before.before.before.before.before.put-none.ensures ∙ ap (closing start.args.answer.now) (left_tare_clear st x _ told _ refl)),
+      (λ st h. held_as (ap leaving (left_tare_clear st x _ told _ refl)) (c.before.before.put_tare-in-TareClear.ensures st h)),
+      (λ st h. c.before.before.before.before.before.before.before.before.put_none.ensures ∙ ap (closing start.args.answer-1.now) (left_tare_clear st x _ told _ refl)),
     )
 
-enum-told-5 : tie.Need-enum-told-5
+enum-told-5 : tie.Need-enum_told-in-Start
 enum-told-5 c = search rules
 
-same-length-8 : tie.Need-same-length-8
+same-length-8 : tie.Need-shape_of-answer-in-Start
 same-length-8 c = search rules
 
-returns-5 : tie.Need-returns-5
+returns-5 : tie.Need-returns-in-Start
 returns-5 c =
     let start = c.before.before.before.before.before.before.before.before in
-    let told = ap beside_batch c.enum-told5.given.1 in
+    let told = ap beside_batch c.enum_told-in-Start-1.given.1 in
     let x = start.args.x in (
       (λ st h. held_as (ap leaving (left_nothing st x _ told)) h),
-      (λ st h. c.before.before.before.before.put-none.ensures ∙ ap (closing start.args.answer.now) (left_nothing st x _ told)),
+      (λ st h. c.before.before.before.before.put_none.ensures ∙ ap (closing start.args.answer-1.now) (left_nothing st x _ told)),
     )
 
-enum-told-6 : tie.Need-enum-told-6
+enum-told-6 : tie.Need-enum_told-in-Stop
 enum-told-6 c = search rules
 
-same-length-9 : tie.Need-same-length-9
+same-length-9 : tie.Need-shape_of-answer-in-Stop
 same-length-9 c = search rules
 
-returns-6 : tie.Need-returns-6
+returns-6 : tie.Need-returns-in-Stop
 returns-6 c =
     let start = c.before.before.before.before.before.before.before.before in
-    let told = ap beside_batch c.enum-told6.given.1 in
+    let told = ap beside_batch c.enum_told-in-Stop-1.given.1 in
     let x = start.args.x in (
       (λ st h. held_as (ap leaving (left_nothing st x _ told)) h),
-      (λ st h. c.before.before.before.before.put-none.ensures ∙ ap (closing start.args.answer.now) (left_nothing st x _ told)),
+      (λ st h. c.before.before.before.before.put_none.ensures ∙ ap (closing start.args.answer-1.now) (left_nothing st x _ told)),
     )
 
-enum-told-7 : tie.Need-enum-told-7
+enum-told-7 : tie.Need-enum_told-in-Set
 enum-told-7 c = search rules
 
-same-length-10 : tie.Need-same-length-10
+same-length-10 : tie.Need-shape_of-answer-in-Set
 same-length-10 c = search rules
 
-returns-7 : tie.Need-returns-7
+returns-7 : tie.Need-returns-in-Set
 returns-7 c =
     let start = c.before.before.before.before.before.before.before.before in
-    let told = ap beside_batch c.enum-told7.given.1 in
+    let told = ap beside_batch c.enum_told-in-Set-1.given.1 in
     let x = start.args.x in (
       (λ st h. held_as (ap leaving (left_nothing st x _ told)) h),
-      (λ st h. c.before.before.before.before.put-none.ensures ∙ ap (closing start.args.answer.now) (left_nothing st x _ told)),
+      (λ st h. c.before.before.before.before.put_none.ensures ∙ ap (closing start.args.answer-1.now) (left_nothing st x _ told)),
     )
 
-enum-told-8 : tie.Need-enum-told-8
+enum-told-8 : tie.Need-enum_told-in-TotalClear
 enum-told-8 c = search rules
 
-clear-totals-requires : tie.Need-clear-totals-requires
+clear-totals-requires : tie.Need-clear_totals-requires
 clear-totals-requires c κs = search rules
 
-put-totals-requires : tie.Need-put-totals-requires
+put-totals-requires : tie.Need-put_totals-requires
 put-totals-requires c κs = search rules
 
-same-length-11 : tie.Need-same-length-11
+same-length-11 : tie.Need-shape_of-state-in-TotalClear
 same-length-11 c = search rules
 
-same-length-12 : tie.Need-same-length-12
+same-length-12 : tie.Need-shape_of-answer-in-TotalClear
 same-length-12 c = search rules
 
-returns-8 : tie.Need-returns-8
+returns-8 : tie.Need-returns-in-TotalClear
 returns-8 c =
     let start = c.before.before.before.before.before.before.before.before.before.before.before.before.before in
-    let told = ap beside_batch c.before.before.before.before.before.enum-told8.given.1 in
+    let told = ap beside_batch c.before.before.before.before.before.enum_told-in-TotalClear-1.given.1 in
     let x = start.args.x in (
-      (λ st h. held_as (ap leaving (left_total_clear st x _ told _ c.before.before.before.clear-totals.ensures)) (c.before.before.put-totals.ensures.0 st h)),
-      (λ st h. c.before.before.before.before.before.before.before.before.before.put-none.ensures ∙ ap (closing start.args.answer.now) (left_total_clear st x _ told _ c.before.before.before.clear-totals.ensures)),
+      (λ st h. held_as (ap leaving (left_total_clear st x _ told _ c.before.before.before.clear_totals.ensures)) (c.before.before.put_totals.ensures.0 st h)),
+      (λ st h. c.before.before.before.before.before.before.before.before.before.put_none.ensures ∙ ap (closing start.args.answer-1.now) (left_total_clear st x _ told _ c.before.before.before.clear_totals.ensures)),
     )
 
-enum-told-9 : tie.Need-enum-told-9
+enum-told-9 : tie.Need-enum_told-in-Undo
 enum-told-9 c = search rules
 
-take-back-requires : tie.Need-take-back-requires
+take-back-requires : tie.Need-take_back-requires
 take-back-requires c κs = search rules
 
-same-length-13 : tie.Need-same-length-13
+same-length-13 : tie.Need-shape_of-state-in-Undo
 same-length-13 c = search rules
 
-same-length-14 : tie.Need-same-length-14
+same-length-14 : tie.Need-shape_of-answer-in-Undo
 same-length-14 c = search rules
 
-returns-9 : tie.Need-returns-9
+returns-9 : tie.Need-returns-in-Undo
 returns-9 c =
     let start = c.before.before.before.before.before.before.before.before.before.before.before.before in
-    let told = ap beside_batch c.before.before.before.before.enum-told9.given.1 in
+    let told = ap beside_batch c.before.before.before.before.enum_told-in-Undo-1.given.1 in
     let x = start.args.x in (
       (λ st h. held_as (ap leaving (left_undo st x _ told _ refl)) (c.before.before.take_back.ensures st h)),
-      (λ st h. c.before.before.before.before.before.before.before.before.put-none.ensures ∙ ap (closing start.args.answer.now) (left_undo st x _ told _ refl)),
+      (λ st h. c.before.before.before.before.before.before.before.before.put_none.ensures ∙ ap (closing start.args.answer-1.now) (left_undo st x _ told _ refl)),
     )
 
-enum-told-10 : tie.Need-enum-told-10
+enum-told-10 : tie.Need-enum_told-in-ShowGross
 enum-told-10 c = search rules
 
 show-requires : tie.Need-show-requires
 show-requires c κs = search rules
 
-same-length-15 : tie.Need-same-length-15
+same-length-15 : tie.Need-shape_of-state-in-ShowGross
 same-length-15 c = search rules
 
-same-length-16 : tie.Need-same-length-16
+same-length-16 : tie.Need-shape_of-answer-in-ShowGross
 same-length-16 c = search rules
 
-returns-10 : tie.Need-returns-10
+returns-10 : tie.Need-returns-in-ShowGross
 returns-10 c =
     let start = c.before.before.before.before.before.before.before.before.before.before.before.before in
-    let told = ap beside_batch c.before.before.before.before.enum-told10.given.1 in
+    let told = ap beside_batch c.before.before.before.before.enum_told-in-ShowGross-1.given.1 in
     let x = start.args.x in (
       (λ st h. held_as (ap leaving (left_gross st x _ told)) (c.before.before.show.ensures st h)),
-      (λ st h. c.before.before.before.before.before.before.before.before.put-none.ensures ∙ ap (closing start.args.answer.now) (left_gross st x _ told)),
+      (λ st h. c.before.before.before.before.before.before.before.before.put_none.ensures ∙ ap (closing start.args.answer-1.now) (left_gross st x _ told)),
     )
 
-enum-told-11 : tie.Need-enum-told-11
+enum-told-11 : tie.Need-enum_told-in-ShowNet
 enum-told-11 c = search rules
 
-show-requires-2 : tie.Need-show-requires-2
+show-requires-2 : tie.Need-show-requires-in-ShowNet
 show-requires-2 c κs = search rules
 
-same-length-17 : tie.Need-same-length-17
+same-length-17 : tie.Need-shape_of-state-in-ShowNet
 same-length-17 c = search rules
 
-same-length-18 : tie.Need-same-length-18
+same-length-18 : tie.Need-shape_of-answer-in-ShowNet
 same-length-18 c = search rules
 
-returns-11 : tie.Need-returns-11
+returns-11 : tie.Need-returns-in-ShowNet
 returns-11 c =
     let start = c.before.before.before.before.before.before.before.before.before.before.before.before in
-    let told = ap beside_batch c.before.before.before.before.enum-told11.given.1 in
+    let told = ap beside_batch c.before.before.before.before.enum_told-in-ShowNet-1.given.1 in
     let x = start.args.x in (
-      (λ st h. held_as (ap leaving (left_net st x _ told)) (c.before.before.show2.ensures st h)),
-      (λ st h. c.before.before.before.before.before.before.before.before.put-none.ensures ∙ ap (closing start.args.answer.now) (left_net st x _ told)),
+      (λ st h. held_as (ap leaving (left_net st x _ told)) (c.before.before.show-in-ShowNet.ensures st h)),
+      (λ st h. c.before.before.before.before.before.before.before.before.put_none.ensures ∙ ap (closing start.args.answer-1.now) (left_net st x _ told)),
     )
 
-enum-told-12 : tie.Need-enum-told-12
+enum-told-12 : tie.Need-enum_told-in-DayClose
 enum-told-12 c = search rules
 
 close-requires : tie.Need-close-requires
 close-requires c κs = search rules
 
-same-length-19 : tie.Need-same-length-19
+same-length-19 : tie.Need-shape_of-state-in-DayClose
 same-length-19 c = search rules
 
-same-length-20 : tie.Need-same-length-20
+same-length-20 : tie.Need-shape_of-answer-in-DayClose
 same-length-20 c = search rules
 
-returns-12 : tie.Need-returns-12
+returns-12 : tie.Need-returns-in-DayClose
 returns-12 c =
     let start = c.before.before.before.before.before.before.before.before.before.before.before.before.before.before.before in
-    let told = ap beside_batch c.before.before.before.before.before.before.before.enum-told12.given.1 in
+    let told = ap beside_batch c.before.before.before.before.before.before.before.enum_told-in-DayClose-1.given.1 in
     let x = start.args.x in (
       (λ st h. held_as (ap leaving (left_close st x _ told _ refl)) (c.before.before.before.before.close.ensures.0 st h)),
-      (λ st h. c.before.before.before.before.close.ensures.1 st h ∙ ap (closed_put (closed.Day st.book)) c.before.before.before.before.before.before.before.before.before.before.before.put-none.ensures ∙ over_none closed.Nothing (closed.Day st.book) start.args.answer.now ∙ ap (closing start.args.answer.now) (left_close st x _ told _ refl)),
+      (λ st h. c.before.before.before.before.close.ensures.1 st h ∙ ap (closed_put (closed.Day st.book)) c.before.before.before.before.before.before.before.before.before.before.before.put_none.ensures ∙ over_none closed.Nothing (closed.Day st.book) start.args.answer-1.now ∙ ap (closing start.args.answer-1.now) (left_close st x _ told _ refl)),
     )
 
-enum-told-13 : tie.Need-enum-told-13
+enum-told-13 : tie.Need-enum_told-in-Discharge
 enum-told-13 c = search rules
 
-same-length-21 : tie.Need-same-length-21
+same-length-21 : tie.Need-shape_of-answer-in-Discharge
 same-length-21 c = search rules
 
-returns-13 : tie.Need-returns-13
+returns-13 : tie.Need-returns-in-Discharge
 returns-13 c =
     let start = c.before.before.before.before.before.before.before.before in
-    let told = ap beside_batch c.enum-told13.given.1 in
+    let told = ap beside_batch c.enum_told-in-Discharge-1.given.1 in
     let x = start.args.x in (
       (λ st h. held_as (ap leaving (left_nothing st x _ told)) h),
-      (λ st h. c.before.before.before.before.put-none.ensures ∙ ap (closing start.args.answer.now) (left_nothing st x _ told)),
+      (λ st h. c.before.before.before.before.put_none.ensures ∙ ap (closing start.args.answer-1.now) (left_nothing st x _ told)),
     )
 
 pub settle_spec : {M : Type 1} → statement M

@@ -10,61 +10,61 @@ use borrow.Author.Rules.{rules}
 use Rattle.board.proofs.steps.settle_batch.Statement.{statement}
 use Rattle.board.proofs.steps.settle_batch.Tie as tie
 
-enum_told : tie.Need-enum-told
+enum_told : tie.Need-enum_told-1
 enum_told c = search rules
 
-start-sequence-requires : tie.Need-start-sequence-requires
+start-sequence-requires : tie.Need-start_sequence-requires
 start-sequence-requires c κs = search rules
 
-put-sequence-requires : tie.Need-put-sequence-requires
+put-sequence-requires : tie.Need-put_sequence-requires
 put-sequence-requires c κs = search rules
 
-same_length : tie.Need-same-length
+same_length : tie.Need-shape_of-state-in-Start
 same_length c = search rules
 
-returns : tie.Need-returns
+returns : tie.Need-returns-in-Start
 returns c st h =
-    held_as ((λ i. with_sequence st (c.before.before.before.start-sequence.ensures i)) ∙ ap (batch_done st) (sym c.before.before.before.before.before.enum_told.given.1))
-    (c.before.before.put-sequence.ensures.0 st h)
+    held_as ((λ i. with_sequence st (c.before.before.before.start_sequence.ensures i)) ∙ ap (batch_done st) (sym c.before.before.before.before.before.enum_told-1.given.1))
+    (c.before.before.put_sequence.ensures.0 st h)
 
-enum-told-2 : tie.Need-enum-told-2
+enum-told-2 : tie.Need-enum_told-in-Stop
 enum-told-2 c = search rules
 
 stop-requires : tie.Need-stop-requires
 stop-requires c κs = search rules
 
-same-length-2 : tie.Need-same-length-2
+same-length-2 : tie.Need-shape_of-state-in-Stop
 same-length-2 c = search rules
 
-returns-2 : tie.Need-returns-2
-returns-2 c st h = held_as (ap (batch_done st) (sym c.before.before.before.before.enum-told2.given.1)) (c.before.before.stop.ensures st h)
+returns-2 : tie.Need-returns-in-Stop
+returns-2 c st h = held_as (ap (batch_done st) (sym c.before.before.before.before.enum_told-in-Stop-1.given.1)) (c.before.before.stop.ensures st h)
 
-enum-known-d : tie.Need-enum-known-d
+enum-known-d : tie.Need-enum_known-d
 enum-known-d c = search rules
 
 store-requires : tie.Need-store-requires
 store-requires c κs = search rules
 
-same-length-3 : tie.Need-same-length-3
+same-length-3 : tie.Need-shape_of-state-in-Set
 same-length-3 c = search rules
 
-returns-3 : tie.Need-returns-3
-returns-3 c st h = held_as (ap (batch_done st) (sym c.before.before.before.before.before.d.given.1)) (c.before.before.store.ensures st h)
+returns-3 : tie.Need-returns-in-Set
+returns-3 c st h = held_as (ap (batch_done st) (sym c.before.before.before.before.before.d-1.given.1)) (c.before.before.store.ensures st h)
 
-enum-told-3 : tie.Need-enum-told-3
+enum-told-3 : tie.Need-enum_told-in-Discharge
 enum-told-3 c = search rules
 
 discharge-requires : tie.Need-discharge-requires
 discharge-requires c κs = search rules
 
-same-length-4 : tie.Need-same-length-4
+same-length-4 : tie.Need-shape_of-state-in-Discharge
 same-length-4 c = search rules
 
-returns-4 : tie.Need-returns-4
-returns-4 c st h = held_as (ap (batch_done st) (sym c.before.before.before.before.enum-told3.given.1)) (c.before.before.discharge.ensures st h)
+returns-4 : tie.Need-returns-in-Discharge
+returns-4 c st h = held_as (ap (batch_done st) (sym c.before.before.before.before.enum_told-in-Discharge-1.given.1)) (c.before.before.discharge.ensures st h)
 
-returns-5 : tie.Need-returns-5
-returns-5 c st h = held_as (not_batched st c.before.before.args.d c.match.keys5) h
+returns-5 : tie.Need-returns-in_default
+returns-5 c st h = held_as (not_batched st c.before.before.args.d-1 c.in_default.keys5) h
 
 pub settle_batch_spec : {M : Type 1} → statement M
 settle_batch_spec =

@@ -10,34 +10,34 @@ use borrow.Author.Rules.{rules}
 use Rattle.board.proofs.steps.step.Statement.{statement}
 use Rattle.board.proofs.steps.step.Tie as tie
 
-returns : tie.Need-returns
-returns c st h = held_as (λ i. pick_state (sym c.if1.true i) st (stepped_of c.before.before.args.s st c.before.before.args.x)) h
+returns : tie.Need-returns-then-held
+returns c st h = held_as (λ i. pick_state (sym c.if-held.true i) st (stepped_of c.before.before.args.s st c.before.before.args.x)) h
 
-sequence-at-requires : tie.Need-sequence-at-requires
+sequence-at-requires : tie.Need-sequence_at-sequence-requires
 sequence-at-requires c κs = search rules
 
-is-idle-requires : tie.Need-is-idle-requires
+is-idle-requires : tie.Need-is_idle-requires
 is-idle-requires c κs = search rules
 
-same_length : tie.Need-same-length
+same_length : tie.Need-shape_of-state-then-is_idle
 same_length c = search rules
 
-returns-2 : tie.Need-returns-2
+returns-2 : tie.Need-returns-then-is_idle
 returns-2 c st h =
-    let q = read_part (λ (t : State). t.sequence) c.before.before.sequence-at.ensures h in
-    held_as (stepped_on _ st _ _ _ c.before.before.before.before.if1.false (step_idle _ st _ (sym (c.before.is-idle.ensures ∙ (λ i. idle_of (q i).stage)) ∙ c.if2.true))) h
+    let q = read_part (λ (t : State). t.sequence) c.before.before.sequence_at-sequence.ensures h in
+    held_as (stepped_on _ st _ _ _ c.before.before.before.before.if-held.false (step_idle _ st _ (sym (c.before.is_idle.ensures ∙ (λ i. idle_of (q i).stage)) ∙ c.if-is_idle.true))) h
 
-go-on-requires : tie.Need-go-on-requires
+go-on-requires : tie.Need-go_on-requires
 go-on-requires c κs = search rules
 
-same-length-2 : tie.Need-same-length-2
+same-length-2 : tie.Need-shape_of-state
 same-length-2 c = search rules
 
-returns-3 : tie.Need-returns-3
+returns-3 : tie.Need-returns
 returns-3 c st h =
-    let q = read_part (λ (t : State). t.sequence) c.before.before.before.before.before.before.sequence-at.ensures h in
-    let runs = sym (c.before.before.before.before.before.is-idle.ensures ∙ (λ i. idle_of (q i).stage)) ∙ c.before.before.before.before.if2.false in
-    held_as (stepped_on _ st _ _ _ c.before.before.before.before.before.before.before.before.if1.false refl) (c.before.before.go_on.ensures st h q runs)
+    let q = read_part (λ (t : State). t.sequence) c.before.before.before.before.before.before.sequence_at-sequence.ensures h in
+    let runs = sym (c.before.before.before.before.before.is_idle.ensures ∙ (λ i. idle_of (q i).stage)) ∙ c.before.before.before.before.if-is_idle.false in
+    held_as (stepped_on _ st _ _ _ c.before.before.before.before.before.before.before.before.if-held.false refl) (c.before.before.go_on.ensures st h q runs)
 
 pub step_spec : {M : Type 1} → statement M
 step_spec =

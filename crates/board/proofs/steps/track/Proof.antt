@@ -9,32 +9,32 @@ use borrow.Author.Rules.{rules}
 use Rattle.board.proofs.steps.track.Statement.{statement}
 use Rattle.board.proofs.steps.track.Tie as tie
 
-sequence-at-requires : tie.Need-sequence-at-requires
+sequence-at-requires : tie.Need-sequence_at-sequence-requires
 sequence-at-requires c κs = search rules
 
-is-idle-requires : tie.Need-is-idle-requires
+is-idle-requires : tie.Need-is_idle-idle-requires
 is-idle-requires c κs = search rules
 
-weighing-at-requires : tie.Need-weighing-at-requires
+weighing-at-requires : tie.Need-weighing_at-weighing-requires
 weighing-at-requires c κs = search rules
 
 tracked-requires : tie.Need-tracked-requires
 tracked-requires c κs = search rules
 
-put-weighing-requires : tie.Need-put-weighing-requires
+put-weighing-requires : tie.Need-put_weighing-requires
 put-weighing-requires c κs = search rules
 
-same_length : tie.Need-same-length
+same_length : tie.Need-shape_of-state
 same_length c = search rules
 
 returns : tie.Need-returns
 returns c st h =
     let a = c.before.before.before.before.before.before.before.before.before.before.before.args in
-    let q = read_part (λ (t : State). t.sequence) c.before.before.before.before.before.before.before.before.sequence-at.ensures h in
-    let w = read_part (λ (t : State). t.weighing) c.before.before.before.before.before.weighing-at.ensures h in
-    let idle = c.before.before.before.before.before.before.before.is-idle.ensures ∙ (λ i. idle_of (q i).stage) in
+    let q = read_part (λ (t : State). t.sequence) c.before.before.before.before.before.before.before.before.sequence_at-sequence.ensures h in
+    let w = read_part (λ (t : State). t.weighing) c.before.before.before.before.before.weighing_at-weighing.ensures h in
+    let idle = c.before.before.before.before.before.before.before.is_idle-idle.ensures ∙ (λ i. idle_of (q i).stage) in
     let e = c.before.before.before.tracked.ensures ∙ (λ i. tracked_of a.s (idle i) a.keyed a.x (w i)) in
-    held_as (λ i. with_weighing st (e i)) (c.before.before.put-weighing.ensures.0 st h)
+    held_as (λ i. with_weighing st (e i)) (c.before.before.put_weighing.ensures.0 st h)
 
 pub track_spec : {M : Type 1} → statement M
 track_spec =

@@ -3,16 +3,16 @@ use borrow.Author.Rules.{rules}
 use Rattle.commands.proofs.body.set_of.Statement.{statement}
 use Rattle.commands.proofs.body.set_of.Tie as tie
 
-enum-known-read : tie.Need-enum-known-read
+enum-known-read : tie.Need-enum_known-read
 enum-known-read c = search rules
 
-enum_told : tie.Need-enum-told
+enum_told : tie.Need-enum_told-1
 enum_told c = search rules
 
-returns : tie.Need-returns
-returns c = simp c.before.read.given.1
+returns : tie.Need-returns-in-Points
+returns c = simp c.before.read-1.given.1
 
-returns-2 : tie.Need-returns-2
+returns-2 : tie.Need-returns-in-Wrong
 returns-2 c = search rules
 
 pub set_of_spec : {M : Type 1} → statement M

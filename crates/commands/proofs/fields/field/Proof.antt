@@ -10,18 +10,18 @@ use Rattle.outline.specs.Lines.{field_of}
 use Rattle.commands.proofs.fields.field.Statement.{statement}
 use Rattle.commands.proofs.fields.field.Tie as tie
 
-returns : tie.Need-returns
+returns : tie.Need-returns-then-line-lt-FIELD_WIDTH
 unfolding field_of
 returns c =
     let short : length c.before.before.args.line.now < c.before.before.args.at + 6 = omega arith in simp (lt-leb _ _ short)
 
-sub-if2 : tie.Need-overflow-sub-if2
+sub-if2 : tie.Need-overflow_sub-line
 sub-if2 c = search rules
 
-add-end : tie.Need-overflow-add-end
+add-end : tie.Need-overflow_add-end
 add-end c = search rules
 
-sub-number-of : tie.Need-overflow-sub-number-of
+sub-number-of : tie.Need-slice_bounds-number_of-count
 sub-number-of c = search rules
 
 part-number-of-start : tie.Need-slice-bounds-number-of-start
@@ -30,17 +30,17 @@ part-number-of-start c = search rules
 part-number-of-end : tie.Need-slice-bounds-number-of-end
 part-number-of-end c = search rules
 
-number-of-requires : tie.Need-number-of-requires
+number-of-requires : tie.Need-number_of-requires
 number-of-requires c κs = search rules
 
-returns-2 : tie.Need-returns-2
+returns-2 : tie.Need-returns-then-at-line
 unfolding field_of
 returns-2 c =
     let s = c.before.before.before.before.before in
     let long : s.args.at + 6 ≤ length s.args.line.now = omega arith in
     c.number_of_lem.ensures ∙ simp (le-leb _ _ long, add-sub_cancel_left)
 
-returns-3 : tie.Need-returns-3
+returns-3 : tie.Need-returns-else-at-line
 unfolding field_of
 returns-3 c =
     let short : length c.before.before.before.args.line.now < c.before.before.before.args.at + 6 = omega arith in simp (lt-leb _ _ short)

@@ -7,52 +7,52 @@ use Rattle.commands.proofs.fields.fields.Tie as tie
 field-requires : tie.Need-field-requires
 field-requires c κs = search rules
 
-add-field : tie.Need-overflow-add-field
+add-field : tie.Need-overflow_add-a
 add-field c = search rules
 
 field-requires-2 : tie.Need-field-requires-2
 field-requires-2 c κs = search rules
 
-mul-field : tie.Need-overflow-mul-field
+mul-field : tie.Need-overflow_mul-field
 mul-field c = search rules
 
-add-field-2 : tie.Need-overflow-add-field-2
+add-field-2 : tie.Need-overflow_add-a-2
 add-field-2 c = search rules
 
 field-requires-3 : tie.Need-field-requires-3
 field-requires-3 c κs = search rules
 
-mul-field-2 : tie.Need-overflow-mul-field-2
+mul-field-2 : tie.Need-overflow_mul-field-2
 mul-field-2 c = search rules
 
-add-field-3 : tie.Need-overflow-add-field-3
+add-field-3 : tie.Need-overflow_add-a-3
 add-field-3 c = search rules
 
 field-requires-4 : tie.Need-field-requires-4
 field-requires-4 c κs = search rules
 
-mul-field-3 : tie.Need-overflow-mul-field-3
+mul-field-3 : tie.Need-overflow_mul-field-3
 mul-field-3 c = search rules
 
-add-field-4 : tie.Need-overflow-add-field-4
+add-field-4 : tie.Need-overflow_add-a-4
 add-field-4 c = search rules
 
 field-requires-5 : tie.Need-field-requires-5
 field-requires-5 c κs = search rules
 
-mul-field-4 : tie.Need-overflow-mul-field-4
+mul-field-4 : tie.Need-overflow_mul-field-4
 mul-field-4 c = search rules
 
-add-field-5 : tie.Need-overflow-add-field-5
+add-field-5 : tie.Need-overflow_add-a-5
 add-field-5 c = search rules
 
 field-requires-6 : tie.Need-field-requires-6
 field-requires-6 c κs = search rules
 
-mul-field-5 : tie.Need-overflow-mul-field-5
+mul-field-5 : tie.Need-overflow_mul-field-5
 mul-field-5 c = search rules
 
-add-field-6 : tie.Need-overflow-add-field-6
+add-field-6 : tie.Need-overflow_add-a-6
 add-field-6 c = search rules
 
 field-requires-7 : tie.Need-field-requires-7
@@ -63,7 +63,7 @@ seven-requires c κs = search rules
 
 returns : tie.Need-returns
 unfolding fields_of
-returns c = simp (c.seven.ensures, c.before.field7.ensures, c.before.before.field6.ensures, c.before.before.before.field5.ensures, c.before.before.before.before.field4.ensures, c.before.before.before.before.before.field3.ensures, c.before.before.before.before.before.before.field2.ensures, c.before.before.before.before.before.before.before.field.ensures)
+returns c = simp (c.seven.ensures, c.before.field-7.ensures, c.before.before.field-6.ensures, c.before.before.before.field-5.ensures, c.before.before.before.before.field-4.ensures, c.before.before.before.before.before.field-3.ensures, c.before.before.before.before.before.before.field-2.ensures, c.before.before.before.before.before.before.before.field.ensures)
 
 pub fields_spec : {M : Type 1} → statement M
 fields_spec =

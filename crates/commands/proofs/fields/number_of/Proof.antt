@@ -20,65 +20,65 @@ abbrev decreases_loop : tie.decreases_loop
 decreases_loop field v₀ i₀ v i = length field - i
 
 -- in a turn, after the test
-module _ (c : tie.After-is-digit invariant_loop decreases_loop) where
-  abbrev L : tie.At-loop invariant_loop decreases_loop
+module _ (c : tie.After-is_digit invariant_loop decreases_loop) where
+  abbrev L : tie.At-loop-i invariant_loop decreases_loop
   L = c.before.before.before
 
   abbrev S : List ℕ
   S = L.before.before.args.field.now
 
   abbrev B : ℕ
-  B = get_or S L.loop.i 0
+  B = get_or S L.loop-i.i 0
 
-  went : number_from 0 S ≡ cond c.is_digit.result (number_from (L.loop.v * 10 + (B - 48)) (drop (L.loop.i + 1) S)) NotDigits
-  went = sym L.loop.inv.2 ∙ step S L.loop.v L.loop.i _ c.before.before.loop-test.true c.is_digit.ensures
+  went : number_from 0 S ≡ cond c.is_digit.result (number_from (L.loop-i.v * 10 + (B - 48)) (drop (L.loop-i.i + 1) S)) NotDigits
+  went = sym L.loop-i.inv.2 ∙ step S L.loop-i.v L.loop-i.i _ c.before.before.loop-i-test.true c.is_digit.ensures
 
   range : c.is_digit.result ≡ true → (48 ≤ B) × (B ≤ 57)
   range t = digit_range B (sym c.is_digit.ensures ∙ t)
 
-  small : L.loop.v < 100000
-  small = below L.loop.inv.1 (omega (arith, L.before.before.pre))
+  small : L.loop-i.v < 100000
+  small = below L.loop-i.inv.1 (omega (arith, L.before.before.pre))
 
-loop-holds : tie.Need-loop-init invariant_loop decreases_loop
+loop-holds : tie.Need-loop-i-init invariant_loop decreases_loop
 loop-holds c = (zero-le, lit< tt, refl)
 
-shared-slice-read-b : tie.Need-shared-slice-read-b invariant_loop decreases_loop
+shared-slice-read-b : tie.Need-bounds-field-i invariant_loop decreases_loop
 shared-slice-read-b c = omega arith
 
-is-digit-requires : tie.Need-is-digit-requires invariant_loop decreases_loop
+is-digit-requires : tie.Need-is_digit-requires invariant_loop decreases_loop
 is-digit-requires c κs = tt
 
-mul-v : tie.Need-overflow-mul-v invariant_loop decreases_loop
+mul-v : tie.Need-overflow_mul-v invariant_loop decreases_loop
 mul-v c = omega (arith, small c.before)
 
-sub-v : tie.Need-overflow-sub-v invariant_loop decreases_loop
-sub-v c = (range c.before c.if1.true).0
+sub-v : tie.Need-overflow_sub-v invariant_loop decreases_loop
+sub-v c = (range c.before c.if-is_digit.true).0
 
-cast-v : tie.Need-overflow-cast-v invariant_loop decreases_loop
-cast-v c = omega (arith, range c.before c.if1.true)
+cast-v : tie.Need-overflow_cast-v invariant_loop decreases_loop
+cast-v c = omega (arith, range c.before c.if-is_digit.true)
 
-add-v : tie.Need-overflow-add-v invariant_loop decreases_loop
-add-v c = omega (arith, small c.before, range c.before c.if1.true)
+add-v : tie.Need-overflow_add-v invariant_loop decreases_loop
+add-v c = omega (arith, small c.before, range c.before c.if-is_digit.true)
 
-returns : tie.Need-returns invariant_loop decreases_loop
-returns c = sym (went c.before ∙ simp c.if1.false)
+returns : tie.Need-returns-else-is_digit invariant_loop decreases_loop
+returns c = sym (went c.before ∙ simp c.if-is_digit.false)
 
-add-i : tie.Need-overflow-add-i invariant_loop decreases_loop
+add-i : tie.Need-overflow_add-i invariant_loop decreases_loop
 add-i c = omega arith
 
-loop-less : tie.Need-loop-smaller invariant_loop decreases_loop
+loop-less : tie.Need-loop-i-smaller invariant_loop decreases_loop
 loop-less c = omega arith
 
-loop-again : tie.Need-loop-preserved invariant_loop decreases_loop
+loop-again : tie.Need-loop-i-preserved invariant_loop decreases_loop
 loop-again c =
-    let r = range c.before c.if1.true in (
+    let r = range c.before c.if-is_digit.true in (
       omega arith,
-      omega (arith, r, more _ c.before.before.before.before.loop.invariant.1),
-      sym (went c.before ∙ simp c.if1.true),
+      omega (arith, r, more _ c.before.before.before.before.loop-i.invariant.1),
+      sym (went c.before ∙ simp c.if-is_digit.true),
     )
 
-returns-2 : tie.Need-returns-2 invariant_loop decreases_loop
-returns-2 c = sym (sym c.before.loop.invariant.2 ∙ past _ _ _ c.loop-test.false)
+returns-2 : tie.Need-returns invariant_loop decreases_loop
+returns-2 c = sym (sym c.before.loop-i.invariant.2 ∙ past _ _ _ c.loop-i-test.false)
 
 pub number_of_spec : {M : Type 1} → statement M
 number_of_spec =

@@ -3,71 +3,71 @@ use borrow.Author.Rules.{rules}
 use Rattle.commands.proofs.fields.seven.Statement.{statement}
 use Rattle.commands.proofs.fields.seven.Tie as tie
 
-enum-known-f : tie.Need-enum-known-f
+enum-known-f : tie.Need-enum_known-f
 enum-known-f c = search rules
 
-enum_told : tie.Need-enum-told
+enum_told : tie.Need-enum_told-1
 enum_told c = search rules
 
-returns : tie.Need-returns
+returns : tie.Need-returns-in_default
 returns c = search rules
 
-enum-known-ff : tie.Need-enum-known-ff
+enum-known-ff : tie.Need-enum_known-ff
 enum-known-ff c = search rules
 
-enum-told-2 : tie.Need-enum-told-2
+enum-told-2 : tie.Need-enum_told-in_default-ff
 enum-told-2 c = search rules
 
-returns-2 : tie.Need-returns-2
-returns-2 c = simp (c.enum-told2.given.1, c.before.before.before.f.given.1)
+returns-2 : tie.Need-returns-in_default-ff
+returns-2 c = simp (c.enum_told-in_default-ff-1.given.1, c.before.before.before.f-1.given.1)
 
-enum-known-p : tie.Need-enum-known-p
+enum-known-p : tie.Need-enum_known-p
 enum-known-p c = search rules
 
-enum-told-3 : tie.Need-enum-told-3
+enum-told-3 : tie.Need-enum_told-in_default-p
 enum-told-3 c = search rules
 
-returns-3 : tie.Need-returns-3
-returns-3 c = simp (c.enum-told3.given.1, c.before.before.before.ff.given.1, c.before.before.before.before.before.before.f.given.1)
+returns-3 : tie.Need-returns-in_default-p
+returns-3 c = simp (c.enum_told-in_default-p-1.given.1, c.before.before.before.ff-1.given.1, c.before.before.before.before.before.before.f-1.given.1)
 
-enum-known-op : tie.Need-enum-known-op
+enum-known-op : tie.Need-enum_known-op
 enum-known-op c = search rules
 
-enum-told-4 : tie.Need-enum-told-4
+enum-told-4 : tie.Need-enum_told-in_default-op
 enum-told-4 c = search rules
 
-returns-4 : tie.Need-returns-4
-returns-4 c = simp (c.enum-told4.given.1, c.before.before.before.p.given.1, c.before.before.before.before.before.before.ff.given.1, c.before.before.before.before.before.before.before.before.before.f.given.1)
+returns-4 : tie.Need-returns-in_default-op
+returns-4 c = simp (c.enum_told-in_default-op-1.given.1, c.before.before.before.p-1.given.1, c.before.before.before.before.before.before.ff-1.given.1, c.before.before.before.before.before.before.before.before.before.f-1.given.1)
 
-enum-known-over : tie.Need-enum-known-over
+enum-known-over : tie.Need-enum_known-over
 enum-known-over c = search rules
 
-enum-told-5 : tie.Need-enum-told-5
+enum-told-5 : tie.Need-enum_told-in_default-over
 enum-told-5 c = search rules
 
-returns-5 : tie.Need-returns-5
-returns-5 c = simp (c.enum-told5.given.1, c.before.before.before.op.given.1, c.before.before.before.before.before.before.p.given.1, c.before.before.before.before.before.before.before.before.before.ff.given.1, c.before.before.before.before.before.before.before.before.before.before.before.before.f.given.1)
+returns-5 : tie.Need-returns-in_default-over
+returns-5 c = simp (c.enum_told-in_default-over-1.given.1, c.before.before.before.op-1.given.1, c.before.before.before.before.before.before.p-1.given.1, c.before.before.before.before.before.before.before.before.before.ff-1.given.1, c.before.before.before.before.before.before.before.before.before.before.before.before.f-1.given.1)
 
-enum-known-under : tie.Need-enum-known-under
+enum-known-under : tie.Need-enum_known-under
 enum-known-under c = search rules
 
-enum-told-6 : tie.Need-enum-told-6
+enum-told-6 : tie.Need-enum_told-in_default-under
 enum-told-6 c = search rules
 
-returns-6 : tie.Need-returns-6
-returns-6 c = simp (c.enum-told6.given.1, c.before.before.before.over.given.1, c.before.before.before.before.before.before.op.given.1, c.before.before.before.before.before.before.before.before.before.p.given.1, c.before.before.before.before.before.before.before.before.before.before.before.before.ff.given.1, c.before.before.before.before.before.before.before.before.before.before.before.before.before.before.before.f.given.1)
+returns-6 : tie.Need-returns-in_default-under
+returns-6 c = simp (c.enum_told-in_default-under-1.given.1, c.before.before.before.over-1.given.1, c.before.before.before.before.before.before.op-1.given.1, c.before.before.before.before.before.before.before.before.before.p-1.given.1, c.before.before.before.before.before.before.before.before.before.before.before.before.ff-1.given.1, c.before.before.before.before.before.before.before.before.before.before.before.before.before.before.before.f-1.given.1)
 
-enum-known-near : tie.Need-enum-known-near
+enum-known-near : tie.Need-enum_known-near
 enum-known-near c = search rules
 
-enum-told-7 : tie.Need-enum-told-7
+enum-told-7 : tie.Need-enum_told-in_default-near
 enum-told-7 c = search rules
 
-returns-7 : tie.Need-returns-7
-returns-7 c = simp (c.enum-told7.given.1, c.before.before.before.under.given.1, c.before.before.before.before.before.before.over.given.1, c.before.before.before.before.before.before.before.before.before.op.given.1, c.before.before.before.before.before.before.before.before.before.before.before.before.p.given.1, c.before.before.before.before.before.before.before.before.before.before.before.before.before.before.before.ff.given.1, c.before.before.before.before.before.before.before.before.before.before.before.before.before.before.before.before.before.before.f.given.1)
+returns-7 : tie.Need-returns-in_default-near
+returns-7 c = simp (c.enum_told-in_default-near-1.given.1, c.before.before.before.under-1.given.1, c.before.before.before.before.before.before.over-1.given.1, c.before.before.before.before.before.before.before.before.before.op-1.given.1, c.before.before.before.before.before.before.before.before.before.before.before.before.p-1.given.1, c.before.before.before.before.before.before.before.before.before.before.before.before.before.before.before.ff-1.given.1, c.before.before.before.before.before.before.before.before.before.before.before.before.before.before.before.before.before.before.f-1.given.1)
 
-returns-8 : tie.Need-returns-8
-returns-8 c = simp (c.before.near.given.1, c.before.before.before.before.under.given.1, c.before.before.before.before.before.before.before.over.given.1, c.before.before.before.before.before.before.before.before.before.before.op.given.1, c.before.before.before.before.before.before.before.before.before.before.before.before.before.p.given.1, c.before.before.before.before.before.before.before.before.before.before.before.before.before.before.before.before.ff.given.1, c.before.before.before.before.before.before.before.before.before.before.before.before.before.before.before.before.before.before.before.f.given.1)
+returns-8 : tie.Need-returns
+returns-8 c = simp (c.before.near-1.given.1, c.before.before.before.before.under-1.given.1, c.before.before.before.before.before.before.before.over-1.given.1, c.before.before.before.before.before.before.before.before.before.before.op-1.given.1, c.before.before.before.before.before.before.before.before.before.before.before.before.before.p-1.given.1, c.before.before.before.before.before.before.before.before.before.before.before.before.before.before.before.before.ff-1.given.1, c.before.before.before.before.before.before.before.before.before.before.before.before.before.before.before.before.before.before.before.f-1.given.1)
 
 pub seven_spec : {M : Type 1} → statement M
 seven_spec =

@@ -10,113 +10,113 @@ use Rattle.outline.specs.Lines.{letters_of, named}
 use Rattle.commands.proofs.letters.letters_of.Statement.{statement}
 use Rattle.commands.proofs.letters.letters_of.Tie as tie
 
-mul-pair : tie.Need-overflow-mul-pair
+mul-pair : tie.Need-overflow_mul-pair
 mul-pair c = search rules
 
-add-pair : tie.Need-overflow-add-pair
+add-pair : tie.Need-overflow_add-pair
 add-pair c = search rules
 
-letters-for-requires : tie.Need-letters-for-requires
+letters-for-requires : tie.Need-letters_for-requires
 letters-for-requires c κs = search rules
 
-returns : tie.Need-returns
+returns : tie.Need-returns-then-pair-letters_for
 unfolding letters_of
-returns c = sym (ap named (c.if1.true ∙ c.before.letters-for.ensures))
+returns c = sym (ap named (c.if-pair-letters_for.true ∙ c.before.letters_for.ensures))
 
-letters-for-requires-2 : tie.Need-letters-for-requires-2
+letters-for-requires-2 : tie.Need-letters_for-requires-2
 letters-for-requires-2 c κs = search rules
 
-returns-2 : tie.Need-returns-2
+returns-2 : tie.Need-returns-then-pair-letters_for-2
 unfolding letters_of
-returns-2 c = sym (ap named (c.if2.true ∙ c.before.letters-for2.ensures))
+returns-2 c = sym (ap named (c.if-pair-letters_for-2.true ∙ c.before.letters_for-2.ensures))
 
-letters-for-requires-3 : tie.Need-letters-for-requires-3
+letters-for-requires-3 : tie.Need-letters_for-requires-3
 letters-for-requires-3 c κs = search rules
 
-returns-3 : tie.Need-returns-3
+returns-3 : tie.Need-returns-then-pair-letters_for-3
 unfolding letters_of
-returns-3 c = sym (ap named (c.if3.true ∙ c.before.letters-for3.ensures))
+returns-3 c = sym (ap named (c.if-pair-letters_for-3.true ∙ c.before.letters_for-3.ensures))
 
-letters-for-requires-4 : tie.Need-letters-for-requires-4
+letters-for-requires-4 : tie.Need-letters_for-requires-4
 letters-for-requires-4 c κs = search rules
 
-returns-4 : tie.Need-returns-4
+returns-4 : tie.Need-returns-then-pair-letters_for-4
 unfolding letters_of
-returns-4 c = sym (ap named (c.if4.true ∙ c.before.letters-for4.ensures))
+returns-4 c = sym (ap named (c.if-pair-letters_for-4.true ∙ c.before.letters_for-4.ensures))
 
-letters-for-requires-5 : tie.Need-letters-for-requires-5
+letters-for-requires-5 : tie.Need-letters_for-requires-5
 letters-for-requires-5 c κs = search rules
 
-returns-5 : tie.Need-returns-5
+returns-5 : tie.Need-returns-then-pair-letters_for-5
 unfolding letters_of
-returns-5 c = sym (ap named (c.if5.true ∙ c.before.letters-for5.ensures))
+returns-5 c = sym (ap named (c.if-pair-letters_for-5.true ∙ c.before.letters_for-5.ensures))
 
-letters-for-requires-6 : tie.Need-letters-for-requires-6
+letters-for-requires-6 : tie.Need-letters_for-requires-6
 letters-for-requires-6 c κs = search rules
 
-returns-6 : tie.Need-returns-6
+returns-6 : tie.Need-returns-then-pair-letters_for-6
 unfolding letters_of
-returns-6 c = sym (ap named (c.if6.true ∙ c.before.letters-for6.ensures))
+returns-6 c = sym (ap named (c.if-pair-letters_for-6.true ∙ c.before.letters_for-6.ensures))
 
-letters-for-requires-7 : tie.Need-letters-for-requires-7
+letters-for-requires-7 : tie.Need-letters_for-requires-7
 letters-for-requires-7 c κs = search rules
 
-returns-7 : tie.Need-returns-7
+returns-7 : tie.Need-returns-then-pair-letters_for-7
 unfolding letters_of
-returns-7 c = sym (ap named (c.if7.true ∙ c.before.letters-for7.ensures))
+returns-7 c = sym (ap named (c.if-pair-letters_for-7.true ∙ c.before.letters_for-7.ensures))
 
-letters-for-requires-8 : tie.Need-letters-for-requires-8
+letters-for-requires-8 : tie.Need-letters_for-requires-8
 letters-for-requires-8 c κs = search rules
 
-returns-8 : tie.Need-returns-8
+returns-8 : tie.Need-returns-then-pair-letters_for-8
 unfolding letters_of
-returns-8 c = sym (ap named (c.if8.true ∙ c.before.letters-for8.ensures))
+returns-8 c = sym (ap named (c.if-pair-letters_for-8.true ∙ c.before.letters_for-8.ensures))
 
-letters-for-requires-9 : tie.Need-letters-for-requires-9
+letters-for-requires-9 : tie.Need-letters_for-requires-9
 letters-for-requires-9 c κs = search rules
 
-returns-9 : tie.Need-returns-9
+returns-9 : tie.Need-returns-then-pair-letters_for-9
 unfolding letters_of
-returns-9 c = sym (ap named (c.if9.true ∙ c.before.letters-for9.ensures))
+returns-9 c = sym (ap named (c.if-pair-letters_for-9.true ∙ c.before.letters_for-9.ensures))
 
-letters-for-requires-10 : tie.Need-letters-for-requires-10
+letters-for-requires-10 : tie.Need-letters_for-requires-10
 letters-for-requires-10 c κs = search rules
 
-returns-10 : tie.Need-returns-10
+returns-10 : tie.Need-returns-then-pair-letters_for-10
 unfolding letters_of
-returns-10 c = sym (ap named (c.if10.true ∙ c.before.letters-for10.ensures))
+returns-10 c = sym (ap named (c.if-pair-letters_for-10.true ∙ c.before.letters_for-10.ensures))
 
-letters-for-requires-11 : tie.Need-letters-for-requires-11
+letters-for-requires-11 : tie.Need-letters_for-requires-11
 letters-for-requires-11 c κs = search rules
 
-returns-11 : tie.Need-returns-11
+returns-11 : tie.Need-returns-then-pair-letters_for-11
 unfolding letters_of
-returns-11 c = sym (ap named (c.if11.true ∙ c.before.letters-for11.ensures))
+returns-11 c = sym (ap named (c.if-pair-letters_for-11.true ∙ c.before.letters_for-11.ensures))
 
-letters-for-requires-12 : tie.Need-letters-for-requires-12
+letters-for-requires-12 : tie.Need-letters_for-requires-12
 letters-for-requires-12 c κs = search rules
 
-returns-12 : tie.Need-returns-12
+returns-12 : tie.Need-returns-then-pair-letters_for-12
 unfolding letters_of
-returns-12 c = sym (ap named (c.if12.true ∙ c.before.letters-for12.ensures))
+returns-12 c = sym (ap named (c.if-pair-letters_for-12.true ∙ c.before.letters_for-12.ensures))
 
-letters-for-requires-13 : tie.Need-letters-for-requires-13
+letters-for-requires-13 : tie.Need-letters_for-requires-13
 letters-for-requires-13 c κs = search rules
 
-returns-13 : tie.Need-returns-13
+returns-13 : tie.Need-returns-then-pair-letters_for-13
 unfolding letters_of
-returns-13 c = sym (ap named (c.if13.true ∙ c.before.letters-for13.ensures))
+returns-13 c = sym (ap named (c.if-pair-letters_for-13.true ∙ c.before.letters_for-13.ensures))
 
-letters-for-requires-14 : tie.Need-letters-for-requires-14
+letters-for-requires-14 : tie.Need-letters_for-requires-14
 letters-for-requires-14 c κs = search rules
 
-returns-14 : tie.Need-returns-14
+returns-14 : tie.Need-returns-then-pair-letters_for-14
 unfolding letters_of
-returns-14 c = sym (ap named (c.if14.true ∙ c.before.letters-for14.ensures))
+returns-14 c = sym (ap named (c.if-pair-letters_for-14.true ∙ c.before.letters_for-14.ensures))
 
-returns-15 : tie.Need-returns-15
+returns-15 : tie.Need-returns-then-pair-eq-SET_LETTERS
 unfolding letters_of
-returns-15 c = sym (ap named c.if15.true)
+returns-15 c = sym (ap named c.if-pair-eq-SET_LETTERS.true)
 
 -- a test that fails is passed over
 past : (k a : ℕ) (x y z : Letters) → (k ≡ a → ⊥) → z ≡ y → z ≡ cond (eqb k a) x y
@@ -126,7 +126,7 @@ past k a x y z h e = e ∙ sym (ap (λ (t : Bool). cond t x y) (ne_eqb k a h))
 past_word : (k b a : ℕ) (x y z : Letters) → (k ≡ b → ⊥) → b ≡ a → z ≡ y → z ≡ cond (eqb k a) x y
 past_word k b a x y z h e = past k a x y z (λ p. h (p ∙ sym e))
 
-returns-16 : tie.Need-returns-16
+returns-16 : tie.Need-returns
 unfolding letters_of
 returns-16 c =
     let e14 = c.before in
@@ -143,21 +143,21 @@ returns-16 c =
     let e3 = e4.before.before in
     let e2 = e3.before.before in
     let e1 = e2.before.before in
-    past_word _ _ _ _ _ _ e1.if1.false e1.before.letters-for.ensures
-    (past_word _ _ _ _ _ _ e2.if2.false e2.before.letters-for2.ensures
-    (past_word _ _ _ _ _ _ e3.if3.false e3.before.letters-for3.ensures
-    (past_word _ _ _ _ _ _ e4.if4.false e4.before.letters-for4.ensures
-    (past_word _ _ _ _ _ _ e5.if5.false e5.before.letters-for5.ensures
-    (past_word _ _ _ _ _ _ e6.if6.false e6.before.letters-for6.ensures
-    (past_word _ _ _ _ _ _ e7.if7.false e7.before.letters-for7.ensures
-    (past_word _ _ _ _ _ _ e8.if8.false e8.before.letters-for8.ensures
-    (past_word _ _ _ _ _ _ e9.if9.false e9.before.letters-for9.ensures
-    (past_word _ _ _ _ _ _ e10.if10.false e10.before.letters-for10.ensures
-    (past_word _ _ _ _ _ _ e11.if11.false e11.before.letters-for11.ensures
-    (past_word _ _ _ _ _ _ e12.if12.false e12.before.letters-for12.ensures
-    (past_word _ _ _ _ _ _ e13.if13.false e13.before.letters-for13.ensures
-    (past_word _ _ _ _ _ _ e14.if14.false e14.before.letters-for14.ensures
-    (past _ _ _ _ _ c.if15.false refl))))))))))))))
+    past_word _ _ _ _ _ _ e1.if-pair-letters_for.false e1.before.letters_for.ensures
+    (past_word _ _ _ _ _ _ e2.if-pair-letters_for-2.false e2.before.letters_for-2.ensures
+    (past_word _ _ _ _ _ _ e3.if-pair-letters_for-3.false e3.before.letters_for-3.ensures
+    (past_word _ _ _ _ _ _ e4.if-pair-letters_for-4.false e4.before.letters_for-4.ensures
+    (past_word _ _ _ _ _ _ e5.if-pair-letters_for-5.false e5.before.letters_for-5.ensures
+    (past_word _ _ _ _ _ _ e6.if-pair-letters_for-6.false e6.before.letters_for-6.ensures
+    (past_word _ _ _ _ _ _ e7.if-pair-letters_for-7.false e7.before.letters_for-7.ensures
+    (past_word _ _ _ _ _ _ e8.if-pair-letters_for-8.false e8.before.letters_for-8.ensures
+    (past_word _ _ _ _ _ _ e9.if-pair-letters_for-9.false e9.before.letters_for-9.ensures
+    (past_word _ _ _ _ _ _ e10.if-pair-letters_for-10.false e10.before.letters_for-10.ensures
+    (past_word _ _ _ _ _ _ e11.if-pair-letters_for-11.false e11.before.letters_for-11.ensures
+    (past_word _ _ _ _ _ _ e12.if-pair-letters_for-12.false e12.before.letters_for-12.ensures
+    (past_word _ _ _ _ _ _ e13.if-pair-letters_for-13.false e13.before.letters_for-13.ensures
+    (past_word _ _ _ _ _ _ e14.if-pair-letters_for-14.false e14.before.letters_for-14.ensures
+    (past _ _ _ _ _ c.if-pair-eq-SET_LETTERS.false refl))))))))))))))
 
 pub letters_of_spec : {M : Type 1} → statement M
 letters_of_spec =

@@ -19,55 +19,55 @@ abbrev decreases_loop : tie.decreases_loop
 decreases_loop buf i₀ i = length buf - i
 
 -- what the turn's test tells of the whole search
-module _ (c : tie.After-is-cr-lf invariant_loop decreases_loop) where
+module _ (c : tie.After-is_cr_lf invariant_loop decreases_loop) where
   abbrev S : List ℕ
   S = c.before.before.before.before.before.before.args.buf.now
 
   abbrev I : ℕ
-  I = c.before.before.before.before.loop.i
+  I = c.before.before.before.before.loop-i.i
 
-  went : line_end_of S ≡ cond c.is-cr-lf.result (end_at I) (line_end_from (I + 1) (drop (I + 1) S))
+  went : line_end_of S ≡ cond c.is_cr_lf.result (end_at I) (line_end_from (I + 1) (drop (I + 1) S))
   went =
-      sym c.before.before.before.before.loop.invariant.1
-      ∙ turn S I _ _ _ c.before.before.before.loop-test.true c.before.before.byte_at.ensures c.before.byte-at2.ensures c.is-cr-lf.ensures
+      sym c.before.before.before.before.loop-i.invariant.1
+      ∙ turn S I _ _ _ c.before.before.before.loop-i-test.true c.before.before.byte_at.ensures c.before.byte_at-in-loop-i.ensures c.is_cr_lf.ensures
 
-loop-holds : tie.Need-loop-init invariant_loop decreases_loop
+loop-holds : tie.Need-loop-i-init invariant_loop decreases_loop
 unfolding line_end_of
 loop-holds c = (zero-le, refl)
 
-byte-at-requires : tie.Need-byte-at-requires invariant_loop decreases_loop
+byte-at-requires : tie.Need-byte_at-requires invariant_loop decreases_loop
 byte-at-requires c κs = tt
 
-add-byte-at : tie.Need-overflow-add-byte-at invariant_loop decreases_loop
+add-byte-at : tie.Need-overflow_add-i invariant_loop decreases_loop
 add-byte-at c = omega arith
 
-byte-at-requires-2 : tie.Need-byte-at-requires-2 invariant_loop decreases_loop
+byte-at-requires-2 : tie.Need-byte_at-requires-in-loop-i invariant_loop decreases_loop
 byte-at-requires-2 c κs = tt
 
-is-cr-lf-requires : tie.Need-is-cr-lf-requires invariant_loop decreases_loop
+is-cr-lf-requires : tie.Need-is_cr_lf-requires invariant_loop decreases_loop
 is-cr-lf-requires c κs = tt
 
-returns : tie.Need-returns invariant_loop decreases_loop
+returns : tie.Need-returns-then-i-le-LINE_LIMIT invariant_loop decreases_loop
 returns c =
     let short : I c.before.before ≤ line_limit = omega arith in
-    sym (went c.before.before ∙ simp (c.before.if1.true, le-leb _ _ short))
+    sym (went c.before.before ∙ simp (c.before.if-is_cr_lf.true, le-leb _ _ short))
 
-returns-2 : tie.Need-returns-2 invariant_loop decreases_loop
+returns-2 : tie.Need-returns-else-i-le-LINE_LIMIT invariant_loop decreases_loop
 returns-2 c =
     let long : line_limit < I c.before.before = omega arith in
-    sym (went c.before.before ∙ simp (c.before.if1.true, lt-leb _ _ long))
+    sym (went c.before.before ∙ simp (c.before.if-is_cr_lf.true, lt-leb _ _ long))
 
-add-i : tie.Need-overflow-add-i invariant_loop decreases_loop
+add-i : tie.Need-overflow_add-i-in-loop-i invariant_loop decreases_loop
 add-i c = omega arith
 
-loop-less : tie.Need-loop-smaller invariant_loop decreases_loop
+loop-less : tie.Need-loop-i-smaller invariant_loop decreases_loop
 loop-less c = omega arith
 
-loop-again : tie.Need-loop-preserved invariant_loop decreases_loop
-loop-again c = (omega arith, sym (went c.before ∙ simp c.if1.false))
+loop-again : tie.Need-loop-i-preserved invariant_loop decreases_loop
+loop-again c = (omega arith, sym (went c.before ∙ simp c.if-is_cr_lf.false))
 
-returns-3 : tie.Need-returns-3 invariant_loop decreases_loop
-returns-3 c = sym (past _ _ c.loop-test.false) ∙ c.before.loop.invariant.1
+returns-3 : tie.Need-returns invariant_loop decreases_loop
+returns-3 c = sym (past _ _ c.loop-i-test.false) ∙ c.before.loop-i.invariant.1
 
 pub line_end_spec : {M : Type 1} → statement M
 line_end_spec =

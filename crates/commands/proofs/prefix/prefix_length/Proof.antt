@@ -6,11 +6,11 @@ use Rattle.outline.specs.Lines.{prefix_length}
 use Rattle.commands.proofs.prefix.prefix_length.Statement.{statement}
 use Rattle.commands.proofs.prefix.prefix_length.Tie as tie
 
-returns : tie.Need-returns
+returns : tie.Need-returns-then-address-gt0
 unfolding prefix_length
 returns c = let some : 0 < c.before.args.address = omega arith in simp (lt-ltb _ _ some)
 
-returns-2 : tie.Need-returns-2
+returns-2 : tie.Need-returns-else-address-gt0
 unfolding prefix_length
 returns-2 c = let none : c.before.args.address ≤ 0 = omega arith in simp (le-ltb _ _ none)
 

@@ -8,25 +8,25 @@ use Rattle.outline.specs.Tick.{outputs_of}
 use Rattle.controller.proofs.outputs.outputs.Statement.{statement}
 use Rattle.controller.proofs.outputs.outputs.Tie as tie
 
-displayed-requires : tie.Need-displayed-requires
+displayed-requires : tie.Need-displayed-shown-requires
 displayed-requires c κs = search rules
 
-is-fit-requires : tie.Need-is-fit-requires
+is-fit-requires : tie.Need-is_fit-fit-requires
 is-fit-requires c κs = search rules
 
 reading-requires : tie.Need-reading-requires
 reading-requires c κs = search rules
 
-open-gates-requires : tie.Need-open-gates-requires
+open-gates-requires : tie.Need-open_gates-requires
 open-gates-requires c κs = search rules
 
-is-near-requires : tie.Need-is-near-requires
+is-near-requires : tie.Need-is_near-requires
 is-near-requires c κs = search rules
 
-is-full-requires : tie.Need-is-full-requires
+is-full-requires : tie.Need-is_full-requires
 is-full-requires c κs = search rules
 
-analog-value-requires : tie.Need-analog-value-requires
+analog-value-requires : tie.Need-analog_value-requires
 analog-value-requires c κs = search rules
 
 returns : tie.Need-returns
@@ -35,17 +35,17 @@ returns c =
     let f = c.before.before.before.before.before in
     let d = f.before in
     let a = d.before.before.before.before.args in
-    let shown = (be (got {w = w32} d.displayed.result d.displayed.type-inv) d.displayed.ensures).read in
+    let shown = (be (got {w = w32} d.displayed-shown.result d.displayed-shown.type-inv) d.displayed-shown.ensures).read in
     λ i. record {
       outcome = a.outcome;
       reading = c.before.before.before.before.reading.ensures i;
-      stage = a.st.sequence.stage;
-      gates = c.before.before.before.open-gates.ensures i;
-      judgement = a.st.sequence.judgement;
-      error = a.st.sequence.error;
-      near = c.before.before.is-near.ensures i;
-      full = c.before.is-full.ensures i;
-      analog = (c.analog-value.ensures.0 ∙ (λ j. analog_of a.s.board a.s.scale (shown j) (f.is-fit.ensures j))) i;
+      stage = a.st.sequence-1.stage;
+      gates = c.before.before.before.open_gates.ensures i;
+      judgement = a.st.sequence-1.judgement;
+      error = a.st.sequence-1.error;
+      near = c.before.before.is_near.ensures i;
+      full = c.before.is_full.ensures i;
+      analog = (c.analog_value.ensures.0 ∙ (λ j. analog_of a.s.board a.s.scale (shown j) (f.is_fit-fit.ensures j))) i;
       closed = a.closed;
     }
 

@@ -19,46 +19,46 @@ use Rattle.outline.specs.Steps.{parts_of, Parts, parts_tick, step_idle, step-on,
 use Rattle.controller.proofs.unasked.unasked_tick.Statement.{statement}
 use Rattle.controller.proofs.unasked.unasked_tick.Tie as tie
 
-raw_of-requires : tie.Need-raw_of-requires
+raw_of-requires : tie.Need-raw_of-raw-requires
 raw_of-requires c κs = search rules
 
-steadied-requires : tie.Need-steadied-requires
+steadied-requires : tie.Need-steadied-steadied-requires
 steadied-requires c κs = search rules
 
-book-tick-requires : tie.Need-book-tick-requires
+book-tick-requires : tie.Need-book_tick-st-requires
 book-tick-requires c κs = search rules
 
-weigh-requires : tie.Need-weigh-requires
+weigh-requires : tie.Need-weigh-x-requires
 weigh-requires c κs = search rules
 
-is-idle-requires : tie.Need-is-idle-requires
+is-idle-requires : tie.Need-is_idle-idle-requires
 is-idle-requires c κs = search rules
 
-tracked-requires : tie.Need-tracked-requires
+tracked-requires : tie.Need-tracked-st-requires
 tracked-requires c κs = search rules
 
-compared-requires : tie.Need-compared-requires
+compared-requires : tie.Need-compared-v-requires
 compared-requires c κs = search rules
 
-is-fit-requires : tie.Need-is-fit-requires
+is-fit-requires : tie.Need-is_fit-fit-requires
 is-fit-requires c κs = search rules
 
-advance-requires : tie.Need-advance-requires
+advance-requires : tie.Need-advance-a-requires
 advance-requires c κs = search rules
 
-is-idle-requires-2 : tie.Need-is-idle-requires-2
+is-idle-requires-2 : tie.Need-is_idle-requires
 is-idle-requires-2 c κs = search rules
 
-booked-sequence-requires : tie.Need-booked-sequence-requires
+booked-sequence-requires : tie.Need-booked_sequence-st-requires
 booked-sequence-requires c κs = search rules
 
-booked-totals-requires : tie.Need-booked-totals-requires
+booked-totals-requires : tie.Need-booked_totals-st-requires
 booked-totals-requires c κs = search rules
 
-latest-requires : tie.Need-latest-requires
+latest-requires : tie.Need-latest-st-requires
 latest-requires c κs = search rules
 
-none-waiting-requires : tie.Need-none-waiting-requires
+none-waiting-requires : tie.Need-none_waiting-st-requires
 none-waiting-requires c κs = search rules
 
 outputs-requires : tie.Need-outputs-requires
@@ -67,38 +67,38 @@ outputs-requires c κs = search rules
 last : (s : tie.Start) → SFits w32 s.args.st.book.last
 last s = search (sfits_of, s.well-formed.1.0)
 
-parts : (t : tie.After-tracked) →
+parts : (t : tie.After-tracked-st) →
     let i = t.before in
     let w = i.before.before in
     let q = w.before.before in
     let r = q.before.before in
     let a = r.before.args in
-    Parts a.s a.contact a.st a.count r.raw_of.result q.steadied.result w.before.book-tick.result w.weigh.result
-    i.is-idle.result t.tracked.result
+    Parts a.s a.contact a.st a.count r.raw_of-raw.result q.steadied-steadied.result w.before.book_tick-st.result w.weigh-x.result
+    i.is_idle-idle.result t.tracked-st.result
 parts t =
     let i = t.before in
     let w = i.before.before in
     let q = w.before.before in
     let r = q.before.before in
     record {
-      raws = simp (to_z-of_z r.before.ranges.count) at r.raw_of.ensures;
-      steadied = simp (to_z-of_z (last r.before)) at q.steadied.ensures;
-      booked = w.before.book-tick.ensures;
-      weighed = w.weigh.ensures;
-      idles = i.is-idle.ensures;
-      tracked = t.tracked.ensures;
+      raws = simp (to_z-of_z r.before.ranges.count) at r.raw_of-raw.ensures;
+      steadied = simp (to_z-of_z (last r.before)) at q.steadied-steadied.ensures;
+      booked = w.before.book_tick-st.ensures;
+      weighed = w.weigh-x.ensures;
+      idles = i.is_idle-idle.ensures;
+      tracked = t.tracked-st.ensures;
     }
 
 -- step 6, where its ways meet
-stepped : (j : tie.Joined1) →
+stepped : (j : tie.Joined-not-idle) →
     let t = j.before in
     let w = t.before.before.before in
     let q = w.before.before in
     let a = q.before.before.before.args in
-    j.if1.st ≡ stepped_of a.s (parts_of a.st w.before.book-tick.result q.steadied.result t.tracked.result) w.weigh.result
+    j.if-not-idle.st ≡ stepped_of a.s (parts_of a.st w.before.book_tick-st.result q.steadied-steadied.result t.tracked-st.result) w.weigh-x.result
 stepped j =
     let p = parts j.before in
-    let x = j.before.before.before.before.weigh.result in
+    let x = j.before.before.before.before.weigh-x.result in
     ⊎_elim
     (λ f.
     let v = (be (got {w = w64} f.2.result f.2.ok) f.2.ensures).read in
@@ -121,7 +121,7 @@ stepped j =
     (let gross : SFits w32 x.gross = search (sfits_of, o.4.given) in simp (to_z-of_z gross) at o.5.ensures)
     (sym o.7.ensures ∙ o.8.left))
     (λ n. n.1 ∙ step_idle _ _ _ (sym p.idles ∙ not-false _ n.0.left)))
-    j.if1.branch
+    j.if-not-idle.branch
 
 returns : tie.Need-returns
 returns c =

@@ -4,19 +4,19 @@ use Rattle.images.specs.StateImage.{back_weight}
 use Rattle.images.proofs.names.back_weight.Statement.{statement}
 use Rattle.images.proofs.names.back_weight.Tie as tie
 
-enum_told : tie.Need-enum-told
+enum_told : tie.Need-enum_told-1
 enum_told c = search rules
 
-enum-known-back : tie.Need-enum-known-back
+enum-known-back : tie.Need-enum_known-back
 enum-known-back c = search rules
 
-returns : tie.Need-returns
+returns : tie.Need-returns-in-Nothing
 unfolding back_weight
-returns c = simp c.enum_told.given.1
+returns c = simp c.enum_told-1.given.1
 
-returns-2 : tie.Need-returns-2
+returns-2 : tie.Need-returns-in-Weight
 unfolding back_weight
-returns-2 c = simp c.before.back.given.1
+returns-2 c = simp c.before.back-1.given.1
 
 pub back_weight_spec : {M : Type 1} → statement M
 back_weight_spec = tie.close (tie.spec enum_told enum-known-back returns returns-2)

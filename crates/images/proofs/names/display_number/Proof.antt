@@ -4,19 +4,19 @@ use Rattle.images.specs.StateImage.{display_number}
 use Rattle.images.proofs.names.display_number.Statement.{statement}
 use Rattle.images.proofs.names.display_number.Tie as tie
 
-enum_told : tie.Need-enum-told
+enum_told : tie.Need-enum_told-1
 enum_told c = search rules
 
-enum-told-2 : tie.Need-enum-told-2
+enum-told-2 : tie.Need-enum_told-in-Net
 enum-told-2 c = search rules
 
-returns : tie.Need-returns
+returns : tie.Need-returns-in-Gross
 unfolding display_number
-returns c = simp c.enum_told.given.1
+returns c = simp c.enum_told-1.given.1
 
-returns-2 : tie.Need-returns-2
+returns-2 : tie.Need-returns-in-Net
 unfolding display_number
-returns-2 c = simp c.enum-told2.given.1
+returns-2 c = simp c.enum_told-in-Net-1.given.1
 
 pub display_number_spec : {M : Type 1} → statement M
 display_number_spec = tie.close (tie.spec enum_told enum-told-2 returns returns-2)

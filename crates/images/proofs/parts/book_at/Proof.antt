@@ -11,48 +11,48 @@ use Rattle.images.proofs.Buffers.{of_long, of_short}
 use Rattle.images.proofs.parts.book_at.Statement.{statement}
 use Rattle.images.proofs.parts.book_at.Tie as tie
 
-returns : tie.Need-returns
+returns : tie.Need-returns-then-s-lt-EARLIER_LENGTH
 unfolding state_at get_all be_at signed flag_of
-returns c = ap (λ (b : List ℕ). (state_at b).book) (sym (of_short _ c.if1.true))
+returns c = ap (λ (b : List ℕ). (state_at b).book) (sym (of_short _ c.if-s-lt-EARLIER_LENGTH.true))
 
-i32-at-requires : tie.Need-i32-at-requires
+i32-at-requires : tie.Need-i32_at-opening-requires
 i32-at-requires c κs = search rules
 
-i32-at-requires-2 : tie.Need-i32-at-requires-2
+i32-at-requires-2 : tie.Need-i32_at-last-requires
 i32-at-requires-2 c κs = search rules
 
-i64-at-requires : tie.Need-i64-at-requires
+i64-at-requires : tie.Need-i64_at-refilled-requires
 i64-at-requires c κs = search rules
 
-i64-at-requires-2 : tie.Need-i64-at-requires-2
+i64-at-requires-2 : tie.Need-i64_at-used-requires
 i64-at-requires-2 c κs = search rules
 
-i64-at-requires-3 : tie.Need-i64-at-requires-3
+i64-at-requires-3 : tie.Need-i64_at-unbooked-requires
 i64-at-requires-3 c κs = search rules
 
-u32-at-requires : tie.Need-u32-at-requires
+u32-at-requires : tie.Need-u32_at-ticks-requires
 u32-at-requires c κs = search rules
 
-flag-at-requires : tie.Need-flag-at-requires
+flag-at-requires : tie.Need-flag_at-begun-requires
 flag-at-requires c κs = search rules
 
-flag-at-requires-2 : tie.Need-flag-at-requires-2
+flag-at-requires-2 : tie.Need-flag_at-contact-requires
 flag-at-requires-2 c κs = search rules
 
-returns-2 : tie.Need-returns-2
+returns-2 : tie.Need-returns
 unfolding state_at get_all
 returns-2 c =
     (λ i. record {
-      opening = ((got {w = w32} _ c.before.before.before.before.before.before.before.i32-at.type-inv).read ∙ c.before.before.before.before.before.before.before.i32-at.ensures) i;
-      last = ((got {w = w32} _ c.before.before.before.before.before.before.i32-at2.type-inv).read ∙ c.before.before.before.before.before.before.i32-at2.ensures) i;
-      refilled = ((got {w = w64} _ c.before.before.before.before.before.i64-at.type-inv).read ∙ c.before.before.before.before.before.i64-at.ensures) i;
-      used = ((got {w = w64} _ c.before.before.before.before.i64-at2.type-inv).read ∙ c.before.before.before.before.i64-at2.ensures) i;
-      unbooked = ((got {w = w64} _ c.before.before.before.i64-at3.type-inv).read ∙ c.before.before.before.i64-at3.ensures) i;
-      ticks = c.before.before.u32-at.ensures i;
-      begun = c.before.flag_at.ensures i;
-      contact = c.flag-at2.ensures i;
+      opening = ((got {w = w32} _ c.before.before.before.before.before.before.before.i32_at-opening.type-inv).read ∙ c.before.before.before.before.before.before.before.i32_at-opening.ensures) i;
+      last = ((got {w = w32} _ c.before.before.before.before.before.before.i32_at-last.type-inv).read ∙ c.before.before.before.before.before.before.i32_at-last.ensures) i;
+      refilled = ((got {w = w64} _ c.before.before.before.before.before.i64_at-refilled.type-inv).read ∙ c.before.before.before.before.before.i64_at-refilled.ensures) i;
+      used = ((got {w = w64} _ c.before.before.before.before.i64_at-used.type-inv).read ∙ c.before.before.before.before.i64_at-used.ensures) i;
+      unbooked = ((got {w = w64} _ c.before.before.before.i64_at-unbooked.type-inv).read ∙ c.before.before.before.i64_at-unbooked.ensures) i;
+      ticks = c.before.before.u32_at-ticks.ensures i;
+      begun = c.before.flag_at-begun.ensures i;
+      contact = c.flag_at-contact.ensures i;
     })
-    ∙ ap (λ (b : List ℕ). (state_at b).book) (sym (of_long _ c.before.before.before.before.before.before.before.before.if1.false))
+    ∙ ap (λ (b : List ℕ). (state_at b).book) (sym (of_long _ c.before.before.before.before.before.before.before.before.if-s-lt-EARLIER_LENGTH.false))
 
 pub book_at_spec : {M : Type 1} → statement M
 book_at_spec =

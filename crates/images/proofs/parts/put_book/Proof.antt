@@ -18,56 +18,56 @@ use Rattle.images.proofs.parts.put_book.Tie as tie
 fields : (s : tie.Start) → HeldBook s.args.b
 fields s = record { opening = search sfits_of; last = search sfits_of; refilled = search sfits_of; used = search sfits_of; unbooked = search sfits_of; ticks = omega arith }
 
-returns : tie.Need-returns
-returns c = ((λ st h. absurd (c.if1.true (holds_length h))), sym (put_nowhere _ _ _ c.if1.true))
+returns : tie.Need-returns-then-s-ne-STATE_LENGTH
+returns c = ((λ st h. absurd (c.if-s-ne-STATE_LENGTH.true (holds_length h))), sym (put_nowhere _ _ _ c.if-s-ne-STATE_LENGTH.true))
 
-put-i32-requires : tie.Need-put-i32-requires
+put-i32-requires : tie.Need-put_i32-requires
 put-i32-requires c κs = search rules
 
-put-i32-requires-2 : tie.Need-put-i32-requires-2
+put-i32-requires-2 : tie.Need-put_i32-requires-2
 put-i32-requires-2 c κs = search rules
 
-put-i64-requires : tie.Need-put-i64-requires
+put-i64-requires : tie.Need-put_i64-requires
 put-i64-requires c κs = search rules
 
-put-i64-requires-2 : tie.Need-put-i64-requires-2
+put-i64-requires-2 : tie.Need-put_i64-requires-2
 put-i64-requires-2 c κs = search rules
 
-put-i64-requires-3 : tie.Need-put-i64-requires-3
+put-i64-requires-3 : tie.Need-put_i64-requires-3
 put-i64-requires-3 c κs = search rules
 
-put-u32-requires : tie.Need-put-u32-requires
+put-u32-requires : tie.Need-put_u32-requires
 put-u32-requires c κs = search rules
 
-put-flag-requires : tie.Need-put-flag-requires
+put-flag-requires : tie.Need-put_flag-requires
 put-flag-requires c κs = search rules
 
-put-flag-requires-2 : tie.Need-put-flag-requires-2
+put-flag-requires-2 : tie.Need-put_flag-requires-2
 put-flag-requires-2 c κs = search rules
 
-abbrev start : tie.After-slice-known9 → tie.Start
+abbrev start : tie.After-slice_known-9-1 → tie.Start
 start c = c.before.before.before.before.before.before.before.before.before.before.before.before.before.before.before.before.before.before.before.before.before.before.before.before.before.before.before.before.before.before.before.before.before.before.before.before.before.before.before
 
-written : (c : tie.After-slice-known9) → c.before.before.put-flag2.new.0 ≡ put_all book_rows (book_numbers (start c).args.b) (start c).args.s.now
+written : (c : tie.After-slice_known-9-1) → c.before.before.put_flag-2.new.0 ≡ put_all book_rows (book_numbers (start c).args.b) (start c).args.s-1.now
 unfolding put_all
 written c =
     let a = start c in
     let b = a.args.b in
     let f = fields a in
-    let e1 = c.before.before.before.before.before.before.before.before.before.before.before.before.before.before.before.before.before.before.before.before.before.before.before.before.before.before.before.before.before.before.before.before.before.before.put-i32.ensures ∙ (λ i. put_be 4 (coded w32 ((arg f.opening).read i)) a.args.s.now 0) in
-    let e2 = c.before.before.before.before.before.before.before.before.before.before.before.before.before.before.before.before.before.before.before.before.before.before.before.before.before.before.before.before.before.put-i322.ensures ∙ (λ i. put_be 4 (coded w32 ((arg f.last).read i)) (e1 i) 4) in
-    let e3 = c.before.before.before.before.before.before.before.before.before.before.before.before.before.before.before.before.before.before.before.before.before.before.before.before.put-i64.ensures ∙ (λ i. put_be 8 (coded w64 ((arg f.refilled).read i)) (e2 i) 8) in
-    let e4 = c.before.before.before.before.before.before.before.before.before.before.before.before.before.before.before.before.before.before.before.put-i642.ensures ∙ (λ i. put_be 8 (coded w64 ((arg f.used).read i)) (e3 i) 16) in
-    let e5 = c.before.before.before.before.before.before.before.before.before.before.before.before.before.before.put-i643.ensures ∙ (λ i. put_be 8 (coded w64 ((arg f.unbooked).read i)) (e4 i) 24) in
-    let e6 = c.before.before.before.before.before.before.before.before.before.before.put-u32.ensures ∙ (λ i. put_be 4 b.ticks (e5 i) 32) in
-    let e7 = c.before.before.before.before.before.before.put-flag.ensures ∙ (λ i. put_be 1 (flag_tag b.begun) (e6 i) 36) in
-    c.before.before.put-flag2.ensures ∙ (λ i. put_be 1 (flag_tag b.contact) (e7 i) 37)
+    let e1 = c.before.before.before.before.before.before.before.before.before.before.before.before.before.before.before.before.before.before.before.before.before.before.before.before.before.before.before.before.before.before.before.before.before.before.put_i32.ensures ∙ (λ i. put_be 4 (coded w32 ((arg f.opening).read i)) a.args.s-1.now 0) in
+    let e2 = c.before.before.before.before.before.before.before.before.before.before.before.before.before.before.before.before.before.before.before.before.before.before.before.before.before.before.before.before.before.put_i32-2.ensures ∙ (λ i. put_be 4 (coded w32 ((arg f.last).read i)) (e1 i) 4) in
+    let e3 = c.before.before.before.before.before.before.before.before.before.before.before.before.before.before.before.before.before.before.before.before.before.before.before.before.put_i64.ensures ∙ (λ i. put_be 8 (coded w64 ((arg f.refilled).read i)) (e2 i) 8) in
+    let e4 = c.before.before.before.before.before.before.before.before.before.before.before.before.before.before.before.before.before.before.before.put_i64-2.ensures ∙ (λ i. put_be 8 (coded w64 ((arg f.used).read i)) (e3 i) 16) in
+    let e5 = c.before.before.before.before.before.before.before.before.before.before.before.before.before.before.put_i64-3.ensures ∙ (λ i. put_be 8 (coded w64 ((arg f.unbooked).read i)) (e4 i) 24) in
+    let e6 = c.before.before.before.before.before.before.before.before.before.before.put_u32.ensures ∙ (λ i. put_be 4 b.ticks (e5 i) 32) in
+    let e7 = c.before.before.before.before.before.before.put_flag.ensures ∙ (λ i. put_be 1 (flag_tag b.begun) (e6 i) 36) in
+    c.before.before.put_flag-2.ensures ∙ (λ i. put_be 1 (flag_tag b.contact) (e7 i) 37)
 
-same_length : tie.Need-same-length
+same_length : tie.Need-shape_of-s
 same_length c = ap length (written c) ∙ put_all_length book_rows (book_numbers _) _
 
-returns-2 : tie.Need-returns-2
-returns-2 c = (turns_book (start c).args.b (fields (start c)) _ _ (written c), written c ∙ sym (put_here _ _ _ c.before.before.before.before.before.before.before.before.before.before.before.before.before.before.before.before.before.before.before.before.before.before.before.before.before.before.before.before.before.before.before.before.before.before.before.before.before.if1.false))
+returns-2 : tie.Need-returns
+returns-2 c = (turns_book (start c).args.b (fields (start c)) _ _ (written c), written c ∙ sym (put_here _ _ _ c.before.before.before.before.before.before.before.before.before.before.before.before.before.before.before.before.before.before.before.before.before.before.before.before.before.before.before.before.before.before.before.before.before.before.before.before.before.if-s-ne-STATE_LENGTH.false))
 
 pub put_book_spec : {M : Type 1} → statement M
 put_book_spec =

@@ -9,27 +9,27 @@ use Rattle.images.proofs.InPlace.{turns_stability, holds_length}
 use Rattle.images.proofs.parts.put_stability.Statement.{statement}
 use Rattle.images.proofs.parts.put_stability.Tie as tie
 
-returns : tie.Need-returns
-returns c = ((λ st h. absurd (c.if1.true (holds_length h))), sym (put_nowhere _ _ _ c.if1.true))
+returns : tie.Need-returns-then-s-ne-STATE_LENGTH
+returns c = ((λ st h. absurd (c.if-s-ne-STATE_LENGTH.true (holds_length h))), sym (put_nowhere _ _ _ c.if-s-ne-STATE_LENGTH.true))
 
-put-flag-requires : tie.Need-put-flag-requires
+put-flag-requires : tie.Need-put_flag-requires
 put-flag-requires c κs = search rules
 
-put-u16-requires : tie.Need-put-u16-requires
+put-u16-requires : tie.Need-put_u16-requires
 put-u16-requires c κs = search rules
 
-same_length : tie.Need-same-length
+same_length : tie.Need-shape_of-s
 same_length c = search rules
 
-returns-2 : tie.Need-returns-2
+returns-2 : tie.Need-returns
 unfolding put_all
 returns-2 c =
     let a = c.before.before.before.before.before.before.before.before.before.before in
     let q = a.args.q in
-    let e1 = c.before.before.before.before.before.before.put-flag.ensures in
+    let e1 = c.before.before.before.before.before.before.put_flag.ensures in
     let f : q.run < 2 ^ 16 = omega (arith, c) in
-    let e = c.before.before.put-u16.ensures ∙ (λ i. put_be 2 q.run (e1 i) 42) in
-    (turns_stability q f _ _ e, e ∙ sym (put_here _ _ _ c.before.before.before.before.before.before.before.before.if1.false))
+    let e = c.before.before.put_u16.ensures ∙ (λ i. put_be 2 q.run (e1 i) 42) in
+    (turns_stability q f _ _ e, e ∙ sym (put_here _ _ _ c.before.before.before.before.before.before.before.before.if-s-ne-STATE_LENGTH.false))
 
 pub put_stability_spec : {M : Type 1} → statement M
 put_stability_spec = tie.close (tie.spec returns put-flag-requires put-u16-requires same_length returns-2)

@@ -9,41 +9,41 @@ use Rattle.images.proofs.InPlace.{turns_totals, holds_length}
 use Rattle.images.proofs.parts.put_totals.Statement.{statement}
 use Rattle.images.proofs.parts.put_totals.Tie as tie
 
-returns : tie.Need-returns
-returns c = ((λ st h. absurd (c.if1.true (holds_length h))), sym (put_nowhere _ _ _ c.if1.true))
+returns : tie.Need-returns-then-s-ne-STATE_LENGTH
+returns c = ((λ st h. absurd (c.if-s-ne-STATE_LENGTH.true (holds_length h))), sym (put_nowhere _ _ _ c.if-s-ne-STATE_LENGTH.true))
 
-put-u64-requires : tie.Need-put-u64-requires
+put-u64-requires : tie.Need-put_u64-requires
 put-u64-requires c κs = search rules
 
-put-u32-requires : tie.Need-put-u32-requires
+put-u32-requires : tie.Need-put_u32-requires
 put-u32-requires c κs = search rules
 
-back-tag-requires : tie.Need-back-tag-requires
+back-tag-requires : tie.Need-back_tag-requires
 back-tag-requires c κs = search rules
 
-put-u8-requires : tie.Need-put-u8-requires
+put-u8-requires : tie.Need-put_u8-requires
 put-u8-requires c κs = search rules
 
-back-weight-requires : tie.Need-back-weight-requires
+back-weight-requires : tie.Need-back_weight-requires
 back-weight-requires c κs = search rules
 
-put-u64-requires-2 : tie.Need-put-u64-requires-2
+put-u64-requires-2 : tie.Need-put_u64-requires-2
 put-u64-requires-2 c κs = search rules
 
-same_length : tie.Need-same-length
+same_length : tie.Need-shape_of-s
 same_length c = search rules
 
-returns-2 : tie.Need-returns-2
+returns-2 : tie.Need-returns
 unfolding put_all
 returns-2 c =
     let a = c.before.before.before.before.before.before.before.before.before.before.before.before.before.before.before.before.before.before.before.before in
     let t = a.args.t in
-    let e1 = c.before.before.before.before.before.before.before.before.before.before.before.before.before.before.before.before.put-u64.ensures in
-    let e2 = c.before.before.before.before.before.before.before.before.before.before.before.before.put-u32.ensures ∙ (λ i. put_be 4 t.count (e1 i) 104) in
-    let e3 = c.before.before.before.before.before.before.before.put-u8.ensures ∙ (λ i. put_be 1 (c.before.before.before.before.before.before.before.before.back-tag.ensures i) (e2 i) 108) in
-    let f : HeldTotals t = record { total = omega arith; count = omega arith; weight = omega (arith, c.before.before.before.back-weight.ensures) } in
-    let e = c.before.before.put-u642.ensures ∙ (λ i. put_be 8 (c.before.before.before.back-weight.ensures i) (e3 i) 112) in
-    (turns_totals t f _ _ e, e ∙ sym (put_here _ _ _ c.before.before.before.before.before.before.before.before.before.before.before.before.before.before.before.before.before.before.if1.false))
+    let e1 = c.before.before.before.before.before.before.before.before.before.before.before.before.before.before.before.before.put_u64.ensures in
+    let e2 = c.before.before.before.before.before.before.before.before.before.before.before.before.put_u32.ensures ∙ (λ i. put_be 4 t.count (e1 i) 104) in
+    let e3 = c.before.before.before.before.before.before.before.put_u8.ensures ∙ (λ i. put_be 1 (c.before.before.before.before.before.before.before.before.back_tag.ensures i) (e2 i) 108) in
+    let f : HeldTotals t = record { total = omega arith; count = omega arith; weight = omega (arith, c.before.before.before.back_weight.ensures) } in
+    let e = c.before.before.put_u64-2.ensures ∙ (λ i. put_be 8 (c.before.before.before.back_weight.ensures i) (e3 i) 112) in
+    (turns_totals t f _ _ e, e ∙ sym (put_here _ _ _ c.before.before.before.before.before.before.before.before.before.before.before.before.before.before.before.before.before.before.if-s-ne-STATE_LENGTH.false))
 
 pub put_totals_spec : {M : Type 1} → statement M
 put_totals_spec =

@@ -15,35 +15,35 @@ use Rattle.images.proofs.parts.put_weighing.Tie as tie
 fields : (s : tie.Start) → HeldWeighing s.args.w
 fields s = record { zero = search sfits_of; tracked = search sfits_of; tare = search sfits_of; counter = omega arith }
 
-returns : tie.Need-returns
-returns c = ((λ st h. absurd (c.if1.true (holds_length h))), sym (put_nowhere _ _ _ c.if1.true))
+returns : tie.Need-returns-then-s-ne-STATE_LENGTH
+returns c = ((λ st h. absurd (c.if-s-ne-STATE_LENGTH.true (holds_length h))), sym (put_nowhere _ _ _ c.if-s-ne-STATE_LENGTH.true))
 
-put-i32-requires : tie.Need-put-i32-requires
+put-i32-requires : tie.Need-put_i32-requires
 put-i32-requires c κs = search rules
 
-put-i32-requires-2 : tie.Need-put-i32-requires-2
+put-i32-requires-2 : tie.Need-put_i32-requires-2
 put-i32-requires-2 c κs = search rules
 
-put-i32-requires-3 : tie.Need-put-i32-requires-3
+put-i32-requires-3 : tie.Need-put_i32-requires-3
 put-i32-requires-3 c κs = search rules
 
-put-u16-requires : tie.Need-put-u16-requires
+put-u16-requires : tie.Need-put_u16-requires
 put-u16-requires c κs = search rules
 
-same_length : tie.Need-same-length
+same_length : tie.Need-shape_of-s
 same_length c = search rules
 
-returns-2 : tie.Need-returns-2
+returns-2 : tie.Need-returns
 unfolding put_all
 returns-2 c =
     let a = c.before.before.before.before.before.before.before.before.before.before.before.before.before.before.before.before.before.before.before.before.before in
     let w = a.args.w in
     let f = fields a in
-    let e1 = c.before.before.before.before.before.before.before.before.before.before.before.before.before.before.before.before.put-i32.ensures ∙ (λ i. put_be 4 (coded w32 ((arg f.zero).read i)) a.args.s.now 44) in
-    let e2 = c.before.before.before.before.before.before.before.before.before.before.before.put-i322.ensures ∙ (λ i. put_be 4 (coded w32 ((arg f.tracked).read i)) (e1 i) 48) in
-    let e3 = c.before.before.before.before.before.before.put-i323.ensures ∙ (λ i. put_be 4 (coded w32 ((arg f.tare).read i)) (e2 i) 52) in
-    let e = c.before.before.put-u16.ensures ∙ (λ i. put_be 2 w.counter (e3 i) 56) in
-    (turns_weighing w f _ _ e, e ∙ sym (put_here _ _ _ c.before.before.before.before.before.before.before.before.before.before.before.before.before.before.before.before.before.before.before.if1.false))
+    let e1 = c.before.before.before.before.before.before.before.before.before.before.before.before.before.before.before.before.put_i32.ensures ∙ (λ i. put_be 4 (coded w32 ((arg f.zero).read i)) a.args.s-1.now 44) in
+    let e2 = c.before.before.before.before.before.before.before.before.before.before.before.put_i32-2.ensures ∙ (λ i. put_be 4 (coded w32 ((arg f.tracked).read i)) (e1 i) 48) in
+    let e3 = c.before.before.before.before.before.before.put_i32-3.ensures ∙ (λ i. put_be 4 (coded w32 ((arg f.tare).read i)) (e2 i) 52) in
+    let e = c.before.before.put_u16.ensures ∙ (λ i. put_be 2 w.counter (e3 i) 56) in
+    (turns_weighing w f _ _ e, e ∙ sym (put_here _ _ _ c.before.before.before.before.before.before.before.before.before.before.before.before.before.before.before.before.before.before.before.if-s-ne-STATE_LENGTH.false))
 
 pub put_weighing_spec : {M : Type 1} → statement M
 put_weighing_spec =

@@ -9,44 +9,44 @@ use Rattle.images.proofs.Buffers.{of_long, of_short}
 use Rattle.images.proofs.parts.setpoints_at.Statement.{statement}
 use Rattle.images.proofs.parts.setpoints_at.Tie as tie
 
-returns : tie.Need-returns
+returns : tie.Need-returns-then-s-lt-EARLIER_LENGTH
 unfolding state_at get_all be_at
-returns c = ap (λ (b : List ℕ). (state_at b).setpoints) (sym (of_short _ c.if1.true))
+returns c = ap (λ (b : List ℕ). (state_at b).setpoints) (sym (of_short _ c.if-s-lt-EARLIER_LENGTH.true))
 
-u32-at-requires : tie.Need-u32-at-requires
+u32-at-requires : tie.Need-u32_at-target-requires
 u32-at-requires c κs = search rules
 
-u32-at-requires-2 : tie.Need-u32-at-requires-2
+u32-at-requires-2 : tie.Need-u32_at-fall-requires
 u32-at-requires-2 c κs = search rules
 
-u32-at-requires-3 : tie.Need-u32-at-requires-3
+u32-at-requires-3 : tie.Need-u32_at-preliminary-requires
 u32-at-requires-3 c κs = search rules
 
-u32-at-requires-4 : tie.Need-u32-at-requires-4
+u32-at-requires-4 : tie.Need-u32_at-optional-requires
 u32-at-requires-4 c κs = search rules
 
-u32-at-requires-5 : tie.Need-u32-at-requires-5
+u32-at-requires-5 : tie.Need-u32_at-over-requires
 u32-at-requires-5 c κs = search rules
 
-u32-at-requires-6 : tie.Need-u32-at-requires-6
+u32-at-requires-6 : tie.Need-u32_at-under-requires
 u32-at-requires-6 c κs = search rules
 
-u32-at-requires-7 : tie.Need-u32-at-requires-7
+u32-at-requires-7 : tie.Need-u32_at-near-requires
 u32-at-requires-7 c κs = search rules
 
-returns-2 : tie.Need-returns-2
+returns-2 : tie.Need-returns
 unfolding state_at get_all
 returns-2 c =
     (λ i. record {
-      target = c.before.before.before.before.before.before.u32-at.ensures i;
-      fall = c.before.before.before.before.before.u32-at2.ensures i;
-      preliminary = c.before.before.before.before.u32-at3.ensures i;
-      optional = c.before.before.before.u32-at4.ensures i;
-      over = c.before.before.u32-at5.ensures i;
-      under = c.before.u32-at6.ensures i;
-      near = c.u32-at7.ensures i;
+      target = c.before.before.before.before.before.before.u32_at-target.ensures i;
+      fall = c.before.before.before.before.before.u32_at-fall.ensures i;
+      preliminary = c.before.before.before.before.u32_at-preliminary.ensures i;
+      optional = c.before.before.before.u32_at-optional.ensures i;
+      over = c.before.before.u32_at-over.ensures i;
+      under = c.before.u32_at-under.ensures i;
+      near = c.u32_at-near.ensures i;
     })
-    ∙ ap (λ (b : List ℕ). (state_at b).setpoints) (sym (of_long _ c.before.before.before.before.before.before.before.if1.false))
+    ∙ ap (λ (b : List ℕ). (state_at b).setpoints) (sym (of_long _ c.before.before.before.before.before.before.before.if-s-lt-EARLIER_LENGTH.false))
 
 pub setpoints_at_spec : {M : Type 1} → statement M
 setpoints_at_spec =

@@ -9,24 +9,24 @@ use Rattle.images.proofs.Buffers.{of_long, of_short}
 use Rattle.images.proofs.parts.stability_at.Statement.{statement}
 use Rattle.images.proofs.parts.stability_at.Tie as tie
 
-returns : tie.Need-returns
+returns : tie.Need-returns-then-s-lt-EARLIER_LENGTH
 unfolding state_at get_all be_at flag_of
-returns c = ap (λ (b : List ℕ). (state_at b).stability) (sym (of_short _ c.if1.true))
+returns c = ap (λ (b : List ℕ). (state_at b).stability) (sym (of_short _ c.if-s-lt-EARLIER_LENGTH.true))
 
-flag-at-requires : tie.Need-flag-at-requires
+flag-at-requires : tie.Need-flag_at-good-requires
 flag-at-requires c κs = search rules
 
-u16-at-requires : tie.Need-u16-at-requires
+u16-at-requires : tie.Need-u16_at-run-requires
 u16-at-requires c κs = search rules
 
-returns-2 : tie.Need-returns-2
+returns-2 : tie.Need-returns
 unfolding state_at get_all
 returns-2 c =
     (λ i. record {
-      good = c.before.flag_at.ensures i;
-      run = c.u16-at.ensures i;
+      good = c.before.flag_at-good.ensures i;
+      run = c.u16_at-run.ensures i;
     })
-    ∙ ap (λ (b : List ℕ). (state_at b).stability) (sym (of_long _ c.before.before.if1.false))
+    ∙ ap (λ (b : List ℕ). (state_at b).stability) (sym (of_long _ c.before.before.if-s-lt-EARLIER_LENGTH.false))
 
 pub stability_at_spec : {M : Type 1} → statement M
 stability_at_spec = tie.close (tie.spec returns flag-at-requires u16-at-requires returns-2)

@@ -9,34 +9,34 @@ use Rattle.images.proofs.Buffers.{of_long, of_short}
 use Rattle.images.proofs.parts.totals_at.Statement.{statement}
 use Rattle.images.proofs.parts.totals_at.Tie as tie
 
-returns : tie.Need-returns
+returns : tie.Need-returns-then-s-lt-EARLIER_LENGTH
 unfolding state_at get_all be_at back_of
-returns c = ap (λ (b : List ℕ). (state_at b).totals) (sym (of_short _ c.if1.true))
+returns c = ap (λ (b : List ℕ). (state_at b).totals) (sym (of_short _ c.if-s-lt-EARLIER_LENGTH.true))
 
-u64-at-requires : tie.Need-u64-at-requires
+u64-at-requires : tie.Need-u64_at-total-requires
 u64-at-requires c κs = search rules
 
-u32-at-requires : tie.Need-u32-at-requires
+u32-at-requires : tie.Need-u32_at-count-requires
 u32-at-requires c κs = search rules
 
-u8-at-requires : tie.Need-u8-at-requires
+u8-at-requires : tie.Need-u8_at-requires
 u8-at-requires c κs = search rules
 
-u64-at-requires-2 : tie.Need-u64-at-requires-2
+u64-at-requires-2 : tie.Need-u64_at-requires
 u64-at-requires-2 c κs = search rules
 
-back-of-requires : tie.Need-back-of-requires
+back-of-requires : tie.Need-back_of-back-requires
 back-of-requires c κs = search rules
 
-returns-2 : tie.Need-returns-2
+returns-2 : tie.Need-returns
 unfolding state_at get_all
 returns-2 c =
     (λ i. record {
-      total = c.before.before.before.before.u64-at.ensures i;
-      count = c.before.before.before.u32-at.ensures i;
-      back = (c.back_of_lem.ensures ∙ (λ j. back_of (c.before.before.u8-at.ensures j) (c.before.u64-at2.ensures j))) i;
+      total = c.before.before.before.before.u64_at-total.ensures i;
+      count = c.before.before.before.u32_at-count.ensures i;
+      back = (c.back_of_lem.ensures ∙ (λ j. back_of (c.before.before.u8_at.ensures j) (c.before.u64_at.ensures j))) i;
     })
-    ∙ ap (λ (b : List ℕ). (state_at b).totals) (sym (of_long _ c.before.before.before.before.before.if1.false))
+    ∙ ap (λ (b : List ℕ). (state_at b).totals) (sym (of_long _ c.before.before.before.before.before.if-s-lt-EARLIER_LENGTH.false))
 
 pub totals_at_spec : {M : Type 1} → statement M
 totals_at_spec =

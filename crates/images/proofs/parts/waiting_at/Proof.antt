@@ -9,55 +9,55 @@ use Rattle.images.proofs.Buffers.{of_length, of_other}
 use Rattle.images.proofs.parts.waiting_at.Statement.{statement}
 use Rattle.images.proofs.parts.waiting_at.Tie as tie
 
-returns : tie.Need-returns
+returns : tie.Need-returns-then-s-ne-STATE_LENGTH
 unfolding state_at get_all be_at write_of
-returns c = ap (λ (b : List ℕ). (state_at b).waiting) (sym (of_other state_length _ c.if1.true))
+returns c = ap (λ (b : List ℕ). (state_at b).waiting) (sym (of_other state_length _ c.if-s-ne-STATE_LENGTH.true))
 
-u32-at-requires : tie.Need-u32-at-requires
+u32-at-requires : tie.Need-u32_at-target-requires
 u32-at-requires c κs = search rules
 
-u32-at-requires-2 : tie.Need-u32-at-requires-2
+u32-at-requires-2 : tie.Need-u32_at-fall-requires
 u32-at-requires-2 c κs = search rules
 
-u32-at-requires-3 : tie.Need-u32-at-requires-3
+u32-at-requires-3 : tie.Need-u32_at-preliminary-requires
 u32-at-requires-3 c κs = search rules
 
-u32-at-requires-4 : tie.Need-u32-at-requires-4
+u32-at-requires-4 : tie.Need-u32_at-optional-requires
 u32-at-requires-4 c κs = search rules
 
-u32-at-requires-5 : tie.Need-u32-at-requires-5
+u32-at-requires-5 : tie.Need-u32_at-over-requires
 u32-at-requires-5 c κs = search rules
 
-u32-at-requires-6 : tie.Need-u32-at-requires-6
+u32-at-requires-6 : tie.Need-u32_at-under-requires
 u32-at-requires-6 c κs = search rules
 
-u32-at-requires-7 : tie.Need-u32-at-requires-7
+u32-at-requires-7 : tie.Need-u32_at-near-requires
 u32-at-requires-7 c κs = search rules
 
-u8-at-requires : tie.Need-u8-at-requires
+u8-at-requires : tie.Need-u8_at-requires
 u8-at-requires c κs = search rules
 
-write-of-requires : tie.Need-write-of-requires
+write-of-requires : tie.Need-write_of-write-requires
 write-of-requires c κs = search rules
 
-returns-2 : tie.Need-returns-2
+returns-2 : tie.Need-returns
 unfolding state_at get_all
 returns-2 c =
     let r = c.before.before in
     (λ i. record {
       write =
-          (c.write-of.ensures
-          ∙ (λ j. write_of (c.before.u8-at.ensures j) (record {
-            target = r.before.before.before.before.before.before.u32-at.ensures j;
-            fall = r.before.before.before.before.before.u32-at2.ensures j;
-            preliminary = r.before.before.before.before.u32-at3.ensures j;
-            optional = r.before.before.before.u32-at4.ensures j;
-            over = r.before.before.u32-at5.ensures j;
-            under = r.before.u32-at6.ensures j;
-            near = r.u32-at7.ensures j;
+          (c.write_of-write.ensures
+          ∙ (λ j. write_of (c.before.u8_at.ensures j) (record {
+            target = r.before.before.before.before.before.before.u32_at-target.ensures j;
+            fall = r.before.before.before.before.before.u32_at-fall.ensures j;
+            preliminary = r.before.before.before.before.u32_at-preliminary.ensures j;
+            optional = r.before.before.before.u32_at-optional.ensures j;
+            over = r.before.before.u32_at-over.ensures j;
+            under = r.before.u32_at-under.ensures j;
+            near = r.u32_at-near.ensures j;
           }))) i;
     })
-    ∙ ap (λ (b : List ℕ). (state_at b).waiting) (sym (of_length state_length _ r.before.before.before.before.before.before.before.if1.false))
+    ∙ ap (λ (b : List ℕ). (state_at b).waiting) (sym (of_length state_length _ r.before.before.before.before.before.before.before.if-s-ne-STATE_LENGTH.false))
 
 pub waiting_at_spec : {M : Type 1} → statement M
 waiting_at_spec =

@@ -11,32 +11,32 @@ use Rattle.images.proofs.Buffers.{of_long, of_short}
 use Rattle.images.proofs.parts.weighing_at.Statement.{statement}
 use Rattle.images.proofs.parts.weighing_at.Tie as tie
 
-returns : tie.Need-returns
+returns : tie.Need-returns-then-s-lt-EARLIER_LENGTH
 unfolding state_at get_all be_at signed
-returns c = ap (λ (b : List ℕ). (state_at b).weighing) (sym (of_short _ c.if1.true))
+returns c = ap (λ (b : List ℕ). (state_at b).weighing) (sym (of_short _ c.if-s-lt-EARLIER_LENGTH.true))
 
-i32-at-requires : tie.Need-i32-at-requires
+i32-at-requires : tie.Need-i32_at-zero-requires
 i32-at-requires c κs = search rules
 
-i32-at-requires-2 : tie.Need-i32-at-requires-2
+i32-at-requires-2 : tie.Need-i32_at-tracked-requires
 i32-at-requires-2 c κs = search rules
 
-i32-at-requires-3 : tie.Need-i32-at-requires-3
+i32-at-requires-3 : tie.Need-i32_at-tare-requires
 i32-at-requires-3 c κs = search rules
 
-u16-at-requires : tie.Need-u16-at-requires
+u16-at-requires : tie.Need-u16_at-counter-requires
 u16-at-requires c κs = search rules
 
-returns-2 : tie.Need-returns-2
+returns-2 : tie.Need-returns
 unfolding state_at get_all
 returns-2 c =
     (λ i. record {
-      zero = ((got {w = w32} _ c.before.before.before.i32-at.type-inv).read ∙ c.before.before.before.i32-at.ensures) i;
-      tracked = ((got {w = w32} _ c.before.before.i32-at2.type-inv).read ∙ c.before.before.i32-at2.ensures) i;
-      tare = ((got {w = w32} _ c.before.i32-at3.type-inv).read ∙ c.before.i32-at3.ensures) i;
-      counter = c.u16-at.ensures i;
+      zero = ((got {w = w32} _ c.before.before.before.i32_at-zero.type-inv).read ∙ c.before.before.before.i32_at-zero.ensures) i;
+      tracked = ((got {w = w32} _ c.before.before.i32_at-tracked.type-inv).read ∙ c.before.before.i32_at-tracked.ensures) i;
+      tare = ((got {w = w32} _ c.before.i32_at-tare.type-inv).read ∙ c.before.i32_at-tare.ensures) i;
+      counter = c.u16_at-counter.ensures i;
     })
-    ∙ ap (λ (b : List ℕ). (state_at b).weighing) (sym (of_long _ c.before.before.before.before.if1.false))
+    ∙ ap (λ (b : List ℕ). (state_at b).weighing) (sym (of_long _ c.before.before.before.before.if-s-lt-EARLIER_LENGTH.false))
 
 pub weighing_at_spec : {M : Type 1} → statement M
 weighing_at_spec =

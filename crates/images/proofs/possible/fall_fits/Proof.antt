@@ -23,36 +23,36 @@ unbooked c = simp (c.magnitude.ensures, to_z-of_z c.before.ranges.unbooked)
 large_sum : (x y : ℤ) → 1000000000000000000 ≤ nat_abs x → nat_abs y ≤ 2147483648 → 999999990000000000 ≤ nat_abs (x +ℤ y)
 large_sum = ints2 _ (λ a a' b b' h k. simp ints (omega (linear, simp ints at h, simp ints at k)))
 
-summed : (c : tie.Else1) → SFits w64 (c.before.before.args.unbooked +ℤ c.before.before.args.last)
+summed : (c : tie.Else-magnitude-gt-SUM_ROOM) → SFits w64 (c.before.before.args.unbooked +ℤ c.before.before.args.last)
 summed c =
     let s = c.before.before in
-    add_fits w64 1000000000000000000 2147483648 s.args.unbooked s.args.last (omega (arith, c.if1.false, unbooked c.before)) (abs_fits w32 s.ranges.last) tt
+    add_fits w64 1000000000000000000 2147483648 s.args.unbooked s.args.last (omega (arith, c.if-magnitude-gt-SUM_ROOM.false, unbooked c.before)) (abs_fits w32 s.ranges.last) tt
 
 magnitude-requires : tie.Need-magnitude-requires
 magnitude-requires c κs = search rules
 
-returns : tie.Need-returns
+returns : tie.Need-returns-then-magnitude-gt-SUM_ROOM
 returns c =
     let s = c.before.before in
-    let large : raw_limit < nat_abs (s.args.unbooked +ℤ s.args.last) = omega (arith, large_sum s.args.unbooked s.args.last (omega (arith, c.if1.true, unbooked c.before)) (abs_fits w32 s.ranges.last)) in
+    let large : raw_limit < nat_abs (s.args.unbooked +ℤ s.args.last) = omega (arith, large_sum s.args.unbooked s.args.last (omega (arith, c.if-magnitude-gt-SUM_ROOM.true, unbooked c.before)) (abs_fits w32 s.ranges.last)) in
     sym (lt-leb _ _ large)
 
-cast-magnitude : tie.Need-overflow-cast-magnitude
+cast-magnitude : tie.Need-overflow_cast-last
 cast-magnitude c = let f = c.before.before.ranges.last in cast_need (arg f) (wider f)
 
-add-magnitude : tie.Need-overflow-add-magnitude
+add-magnitude : tie.Need-overflow_add-unbooked
 add-magnitude c = let s = c.before.before in add_need (arg s.ranges.unbooked) (widened s.ranges.last) (summed c)
 
 magnitude-requires-2 : tie.Need-magnitude-requires-2
 magnitude-requires-2 c κs = search rules
 
-cast-result : tie.Need-overflow-cast-result
+cast-result : tie.Need-overflow_cast-result
 cast-result c = search rules
 
-returns-2 : tie.Need-returns-2
+returns-2 : tie.Need-returns
 returns-2 c =
     let s = c.before.before.before in
-    ap (λ (n : ℕ). leb n raw_limit) (c.magnitude2.ensures ∙ ap nat_abs (add (arg s.ranges.unbooked) (widened s.ranges.last) (summed c.before)).read)
+    ap (λ (n : ℕ). leb n raw_limit) (c.magnitude-2.ensures ∙ ap nat_abs (add (arg s.ranges.unbooked) (widened s.ranges.last) (summed c.before)).read)
 
 pub fall_fits_spec : {M : Type 1} → statement M
 fall_fits_spec =

@@ -33,20 +33,20 @@ module _ (c : tie.Start) where
         c.requires.1,
       ))
 
-cast-result : tie.Need-overflow-cast-result
+cast-result : tie.Need-overflow_cast-result
 cast-result c = let f = c.ranges.opening in cast_need (arg f) (wider f)
 
-add-result : tie.Need-overflow-add-result
+add-result : tie.Need-overflow_add-result
 add-result c = add_need (widened c.ranges.opening) (arg c.ranges.refilled) (one c)
 
-sub-result : tie.Need-overflow-sub-result
+sub-result : tie.Need-overflow_sub-result
 sub-result c = sub_need (add (widened c.ranges.opening) (arg c.ranges.refilled) (one c)) (arg c.ranges.used) (two c)
 
-sub-result-2 : tie.Need-overflow-sub-result-2
+sub-result-2 : tie.Need-overflow_sub-result-2
 sub-result-2 c =
     sub_need (sub (add (widened c.ranges.opening) (arg c.ranges.refilled) (one c)) (arg c.ranges.used) (two c)) (arg c.ranges.unbooked) (three c)
 
-cast-result-2 : tie.Need-overflow-cast-result-2
+cast-result-2 : tie.Need-overflow_cast-result-2
 cast-result-2 c = let f = c.ranges.last in cast_need (arg f) (wider f)
 
 returns : tie.Need-returns

@@ -29,51 +29,51 @@ record Signed (b : Book) : Type 0 where
 fields : (s : tie.Start) → Signed s.args.b
 fields s = record { opening = search sfits_of; last = search sfits_of; refilled = search sfits_of; used = search sfits_of; unbooked = search sfits_of }
 
-summed : (c : tie.After-sums-fit) →
+summed : (c : tie.After-sums_fit) →
     let b = c.before.before.before.args.b in
-    c.sums-fit.result ≡ leb (nat_abs b.refilled + nat_abs b.used) (rise_limit * b.ticks)
-summed c = let h = fields c.before.before.before in simp (c.sums-fit.ensures, to_z-of_z h.refilled, to_z-of_z h.used)
+    c.sums_fit.result ≡ leb (nat_abs b.refilled + nat_abs b.used) (rise_limit * b.ticks)
+summed c = let h = fields c.before.before.before in simp (c.sums_fit.ensures, to_z-of_z h.refilled, to_z-of_z h.used)
 
-fallen : (c : tie.After-fall-fits) →
+fallen : (c : tie.After-fall_fits) →
     let b = c.before.before.before.before.before.before.before.args.b in
-    c.fall-fits.result ≡ leb (nat_abs (b.unbooked +ℤ b.last)) raw_limit
-fallen c = let h = fields c.before.before.before.before.before.before.before in simp (c.fall-fits.ensures, to_z-of_z h.unbooked, to_z-of_z h.last)
+    c.fall_fits.result ≡ leb (nat_abs (b.unbooked +ℤ b.last)) raw_limit
+fallen c = let h = fields c.before.before.before.before.before.before.before in simp (c.fall_fits.ensures, to_z-of_z h.unbooked, to_z-of_z h.last)
 
-were_sums : (c : tie.Else1) →
+were_sums : (c : tie.Else-not-sums_fit) →
     let b = c.before.before.before.before.args.b in
     leb (nat_abs b.refilled + nat_abs b.used) (rise_limit * b.ticks) ≡ true
-were_sums c = sym (summed c.before) ∙ not-false _ c.if1.false
+were_sums c = sym (summed c.before) ∙ not-false _ c.if-not-sums_fit.false
 
-was_fall : (c : tie.Else2) →
+was_fall : (c : tie.Else-not-fall_fits) →
     let b = c.before.before.before.before.before.before.before.before.args.b in
     leb (nat_abs (b.unbooked +ℤ b.last)) raw_limit ≡ true
-was_fall c = sym (fallen c.before) ∙ not-false _ c.if2.false
+was_fall c = sym (fallen c.before) ∙ not-false _ c.if-not-fall_fits.false
 
 near_sum : (x y : ℤ) → nat_abs (x +ℤ y) ≤ 4000000 → nat_abs y ≤ 2147483648 → nat_abs x ≤ 1000000000000000000
 near_sum = ints2 _ (λ a a' b b' h k. simp ints (omega (linear, simp ints at h, simp ints at k)))
 
-sums-fit-requires : tie.Need-sums-fit-requires
+sums-fit-requires : tie.Need-sums_fit-requires
 sums-fit-requires c κs = search rules
 
-returns : tie.Need-returns
-returns c = book_sums _ (sym (summed c.before) ∙ not-true _ c.if1.true)
+returns : tie.Need-returns-then-not-sums_fit
+returns c = book_sums _ (sym (summed c.before) ∙ not-true _ c.if-not-sums_fit.true)
 
-fall-fits-requires : tie.Need-fall-fits-requires
+fall-fits-requires : tie.Need-fall_fits-requires
 fall-fits-requires c κs = search rules
 
-returns-2 : tie.Need-returns-2
-returns-2 c = book_fall _ (sym (fallen c.before) ∙ not-true _ c.if2.true)
+returns-2 : tie.Need-returns-then-not-fall_fits
+returns-2 c = book_fall _ (sym (fallen c.before) ∙ not-true _ c.if-not-fall_fits.true)
 
-is-raw-requires : tie.Need-is-raw-requires
+is-raw-requires : tie.Need-is_raw-requires
 is-raw-requires c κs = search rules
 
-is-raw-requires-2 : tie.Need-is-raw-requires-2
+is-raw-requires-2 : tie.Need-is_raw-requires-2
 is-raw-requires-2 c κs = search rules
 
-is-blank-requires : tie.Need-is-blank-requires
+is-blank-requires : tie.Need-is_blank-requires
 is-blank-requires c κs = search rules
 
-is-balanced-requires : tie.Need-is-balanced-requires
+is-balanced-requires : tie.Need-is_balanced-requires
 is-balanced-requires c κs =
     let s = c.before.before.before.before.before.before.before.before.before.before.before.before.before.before.before.before.before.before.before.before.before.before.before in
     let b = s.args.b in
@@ -82,19 +82,19 @@ is-balanced-requires c κs =
       simp (to_z-of_z h.unbooked) (near_sum b.unbooked b.last (leb-true _ _ (was_fall c.before.before.before.before.before.before.before.before.before.before.before.before.before.before.before)) (abs_fits w32 h.last)),
     )
 
-returns-3 : tie.Need-returns-3
+returns-3 : tie.Need-returns
 returns-3 c =
     let s = c.before.before.before.before.before.before.before.before.before.before.before.before.before.before.before.before.before.before.before.before.before.before.before.before in
     let b = s.args.b in
     let h = fields s in
     simp (
-      c.before.before.before.before.before.before.before.before.before.before.before.before.before.is-raw.ensures,
-      c.before.before.before.before.before.before.before.before.before.before.before.is-raw2.ensures,
+      c.before.before.before.before.before.before.before.before.before.before.before.before.before.is_raw.ensures,
+      c.before.before.before.before.before.before.before.before.before.before.before.is_raw-2.ensures,
       to_z-of_z h.opening,
       to_z-of_z h.last,
       eqb_is {y = pos 0} h.unbooked (sfits_of (lit< tt)),
-      c.before.before.before.before.before.before.before.is-blank.ensures,
-      c.is-balanced.ensures,
+      c.before.before.before.before.before.before.before.is_blank.ensures,
+      c.is_balanced.ensures,
       to_z-of_z h.refilled,
       to_z-of_z h.used,
       to_z-of_z h.unbooked,

@@ -19,109 +19,109 @@ use Rattle.images.proofs.possible.is_possible.Statement.{statement}
 use Rattle.images.proofs.possible.is_possible.Tie as tie
 
 -- both images have their lengths
-lengths : (c : tie.After-is-book) →
+lengths : (c : tie.After-is_book) →
     let s = c.before.before.before.before.before.before.before.args in
     (length s.g.now ≡ given_length) × (is_image (length s.s.now) ≡ true)
 lengths c =
     let h = c.before.before in
-    (h.before.before.if1.false, sym h.before.is-image.ensures ∙ not-false _ h.if2.false)
+    (h.before.before.if-g-ne-GIVEN_LENGTH.false, sym h.before.is_image.ensures ∙ not-false _ h.if-not-is_image.false)
 
 -- what was judged is the part at its places
-book : (c : tie.After-is-book) →
+book : (c : tie.After-is_book) →
     let l = c.before.before.before.before.before.before.before.args.s.now in
-    is_image (length l) ≡ true → c.is-book.result ≡ book_possible (state_at l).book
-book c f = c.is-book.ensures ∙ ap book_possible (part_here _ f (λ (t : State). t.book) c.before.book-at.ensures)
+    is_image (length l) ≡ true → c.is_book.result ≡ book_possible (state_at l).book
+book c f = c.is_book.ensures ∙ ap book_possible (part_here _ f (λ (t : State). t.book) c.before.book_at-book.ensures)
 
-totals : (c : tie.After-is-totals) →
+totals : (c : tie.After-is_totals) →
     let l = c.before.before.before.before.before.before.before.before.before.before.args.s.now in
-    is_image (length l) ≡ true → c.is-totals.result ≡ totals_possible (state_at l).totals
-totals c f = c.is-totals.ensures ∙ ap totals_possible (part_here _ f (λ (t : State). t.totals) c.before.totals-at.ensures)
+    is_image (length l) ≡ true → c.is_totals.result ≡ totals_possible (state_at l).totals
+totals c f = c.is_totals.ensures ∙ ap totals_possible (part_here _ f (λ (t : State). t.totals) c.before.totals_at-totals.ensures)
 
-weighing : (c : tie.After-is-weighing) →
+weighing : (c : tie.After-is_weighing) →
     let s = c.before.before.before.before.before.before.before.before.before.before.before.before.before.args in
     let g = settings_of (given_at s.g.now) in
-    is_image (length s.s.now) ≡ true → c.is-weighing.result ≡ weighing_possible g.range g.tracking (state_at s.s.now).weighing
+    is_image (length s.s.now) ≡ true → c.is_weighing.result ≡ weighing_possible g.range g.tracking (state_at s.s.now).weighing
 weighing c f =
     let g = settings_of (given_at c.before.before.before.before.before.before.before.before.before.before.before.before.before.args.g.now) in
-    c.is-weighing.ensures ∙ ap (weighing_possible g.range g.tracking) (part_here _ f (λ (t : State). t.weighing) c.before.weighing-at.ensures)
+    c.is_weighing.ensures ∙ ap (weighing_possible g.range g.tracking) (part_here _ f (λ (t : State). t.weighing) c.before.weighing_at-weighing.ensures)
 
-waiting : (c : tie.After-write-fits) →
+waiting : (c : tie.After-write_fits) →
     let s = c.before.before.before.before.before.before.before.before.before.before.before.before.before.before.before.before.args in
     let g = settings_of (given_at s.g.now) in
     is_image (length s.s.now) ≡ true → c.write_fits_lem.result ≡ write_fits g.batching.mode (state_at s.s.now).waiting.write
 waiting c f =
     let g = settings_of (given_at c.before.before.before.before.before.before.before.before.before.before.before.before.before.before.before.before.args.g.now) in
-    c.write_fits_lem.ensures ∙ ap (λ (w : Waiting). write_fits g.batching.mode w.write) (waiting_here _ f c.before.waiting-at.ensures)
+    c.write_fits_lem.ensures ∙ ap (λ (w : Waiting). write_fits g.batching.mode w.write) (waiting_here _ f c.before.waiting_at-waiting.ensures)
 
-returns : tie.Need-returns
-returns c = sym (possible_no_settings _ _ c.if1.true)
+returns : tie.Need-returns-then-g-ne-GIVEN_LENGTH
+returns c = sym (possible_no_settings _ _ c.if-g-ne-GIVEN_LENGTH.true)
 
-is-image-requires : tie.Need-is-image-requires
+is-image-requires : tie.Need-is_image-requires
 is-image-requires c κs = search rules
 
-returns-2 : tie.Need-returns-2
-returns-2 c = sym (possible_no_state _ _ c.before.before.if1.false (sym c.before.is-image.ensures ∙ not-true _ c.if2.true))
+returns-2 : tie.Need-returns-then-not-is_image
+returns-2 c = sym (possible_no_state _ _ c.before.before.if-g-ne-GIVEN_LENGTH.false (sym c.before.is_image.ensures ∙ not-true _ c.if-not-is_image.true))
 
-book-at-requires : tie.Need-book-at-requires
+book-at-requires : tie.Need-book_at-book-requires
 book-at-requires c κs = search rules
 
-is-book-requires : tie.Need-is-book-requires
+is-book-requires : tie.Need-is_book-requires
 is-book-requires c κs = search rules
 
-returns-3 : tie.Need-returns-3
+returns-3 : tie.Need-returns-then-not-is_book
 returns-3 c =
     let k = lengths c.before in
-    not_book _ _ (sym (book c.before k.1) ∙ not-true _ c.if3.true) ∙ sym (possible_here _ _ k.0 k.1)
+    not_book _ _ (sym (book c.before k.1) ∙ not-true _ c.if-not-is_book.true) ∙ sym (possible_here _ _ k.0 k.1)
 
-totals-at-requires : tie.Need-totals-at-requires
+totals-at-requires : tie.Need-totals_at-totals-requires
 totals-at-requires c κs = search rules
 
-is-totals-requires : tie.Need-is-totals-requires
+is-totals-requires : tie.Need-is_totals-requires
 is-totals-requires c κs = search rules
 
-returns-4 : tie.Need-returns-4
+returns-4 : tie.Need-returns-then-not-is_totals
 returns-4 c =
     let k = lengths c.before.before.before.before in
-    not_totals _ _ (sym (totals c.before k.1) ∙ not-true _ c.if4.true) ∙ sym (possible_here _ _ k.0 k.1)
+    not_totals _ _ (sym (totals c.before k.1) ∙ not-true _ c.if-not-is_totals.true) ∙ sym (possible_here _ _ k.0 k.1)
 
-weighing-at-requires : tie.Need-weighing-at-requires
+weighing-at-requires : tie.Need-weighing_at-weighing-requires
 weighing-at-requires c κs = search rules
 
-is-weighing-requires : tie.Need-is-weighing-requires
+is-weighing-requires : tie.Need-is_weighing-requires
 is-weighing-requires c κs = search rules
 
-returns-5 : tie.Need-returns-5
+returns-5 : tie.Need-returns-then-not-is_weighing
 returns-5 c =
     let k = lengths c.before.before.before.before.before.before.before in
-    not_weighing _ _ (sym (weighing c.before k.1) ∙ not-true _ c.if5.true) ∙ sym (possible_here _ _ k.0 k.1)
+    not_weighing _ _ (sym (weighing c.before k.1) ∙ not-true _ c.if-not-is_weighing.true) ∙ sym (possible_here _ _ k.0 k.1)
 
-waiting-at-requires : tie.Need-waiting-at-requires
+waiting-at-requires : tie.Need-waiting_at-waiting-requires
 waiting-at-requires c κs = search rules
 
-write-fits-requires : tie.Need-write-fits-requires
+write-fits-requires : tie.Need-write_fits-requires
 write-fits-requires c κs = search rules
 
-returns-6 : tie.Need-returns-6
+returns-6 : tie.Need-returns-then-not-write_fits
 returns-6 c =
     let k = lengths c.before.before.before.before.before.before.before.before.before.before in
-    not_waiting _ _ (sym (waiting c.before k.1) ∙ not-true _ c.if6.true) ∙ sym (possible_here _ _ k.0 k.1)
+    not_waiting _ _ (sym (waiting c.before k.1) ∙ not-true _ c.if-not-write_fits.true) ∙ sym (possible_here _ _ k.0 k.1)
 
-has-points-requires : tie.Need-has-points-requires
+has-points-requires : tie.Need-has_points-waits-requires
 has-points-requires c κs = search rules
 
-stability-at-requires : tie.Need-stability-at-requires
+stability-at-requires : tie.Need-stability_at-stability-requires
 stability-at-requires c κs = search rules
 
-setpoints-at-requires : tie.Need-setpoints-at-requires
+setpoints-at-requires : tie.Need-setpoints_at-setpoints-requires
 setpoints-at-requires c κs = search rules
 
-sequence-at-requires : tie.Need-sequence-at-requires
+sequence-at-requires : tie.Need-sequence_at-sequence-requires
 sequence-at-requires c κs = search rules
 
-is-rest-requires : tie.Need-is-rest-requires
+is-rest-requires : tie.Need-is_rest-requires
 is-rest-requires c κs = search rules
 
-returns-7 : tie.Need-returns-7
+returns-7 : tie.Need-returns
 returns-7 c =
     let v = c.before.before.before.before in
     let e6 = v.before in
@@ -132,20 +132,20 @@ returns-7 c =
     let k = lengths e3.before in
     let f = k.1 in
     let st = state_at s.s.now in
-    let at = part_here _ f (λ (t : State). t.book) e3.before.before.book-at.ensures in
-    let scales = part_here _ f (λ (t : State). t.weighing) e5.before.before.weighing-at.ensures in
-    let waits = waiting_here _ f e6.before.before.waiting-at.ensures in
-    let q = part_here _ f (λ (t : State). t.stability) c.before.before.before.stability-at.ensures in
-    let p = part_here _ f (λ (t : State). t.setpoints) c.before.before.setpoints-at.ensures in
-    let x = part_here _ f (λ (t : State). t.sequence) c.before.sequence-at.ensures in
+    let at = part_here _ f (λ (t : State). t.book) e3.before.before.book_at-book.ensures in
+    let scales = part_here _ f (λ (t : State). t.weighing) e5.before.before.weighing_at-weighing.ensures in
+    let waits = waiting_here _ f e6.before.before.waiting_at-waiting.ensures in
+    let q = part_here _ f (λ (t : State). t.stability) c.before.before.before.stability_at-stability.ensures in
+    let p = part_here _ f (λ (t : State). t.setpoints) c.before.before.setpoints_at-setpoints.ensures in
+    let x = part_here _ f (λ (t : State). t.sequence) c.before.sequence_at-sequence.ensures in
     let g = settings_of (given_at s.g.now) in
-    c.is-rest.ensures
-    ∙ (λ i. rest_possible g (q i) (p i) (x i) (at i).begun (scales i).counter ((v.has-points.ensures ∙ ap (λ (w : Waiting). is_write w.write) waits) i))
+    c.is_rest.ensures
+    ∙ (λ i. rest_possible g (q i) (p i) (x i) (at i).begun (scales i).counter ((v.has_points-waits.ensures ∙ ap (λ (w : Waiting). is_write w.write) waits) i))
     ∙ rest g st
-    (sym (book e3.before f) ∙ not-false _ e3.if3.false)
-    (sym (totals e4.before f) ∙ not-false _ e4.if4.false)
-    (sym (weighing e5.before f) ∙ not-false _ e5.if5.false)
-    (sym (waiting e6.before f) ∙ not-false _ e6.if6.false)
+    (sym (book e3.before f) ∙ not-false _ e3.if-not-is_book.false)
+    (sym (totals e4.before f) ∙ not-false _ e4.if-not-is_totals.false)
+    (sym (weighing e5.before f) ∙ not-false _ e5.if-not-is_weighing.false)
+    (sym (waiting e6.before f) ∙ not-false _ e6.if-not-write_fits.false)
     ∙ sym (possible_here _ _ k.0 f)
 
 pub is_possible_spec : {M : Type 1} → statement M

@@ -25,16 +25,16 @@ normal m = go (eq_z m (pos 1))
     go true = refl
     go false = refl
 
-time-of-requires : tie.Need-time-of-requires
+time-of-requires : tie.Need-time_of-requires
 time-of-requires c κs = search rules
 
-at-least-one-requires : tie.Need-at-least-one-requires
+at-least-one-requires : tie.Need-at_least_one-requires
 at-least-one-requires c κs = search rules
 
-clock-limit-requires : tie.Need-clock-limit-requires
+clock-limit-requires : tie.Need-clock_limit-requires
 clock-limit-requires c κs = search rules
 
-i32-at-requires : tie.Need-i32-at-requires
+i32-at-requires : tie.Need-i32_at-requires
 i32-at-requires c κs = search rules
 
 returns : tie.Need-returns
@@ -44,11 +44,11 @@ returns c =
     let n = s.args.n in
     let e = s.args.e in
     let mode =
-    eqb_is {w = w32} {x = c.i32-at.result} {y = pos 1} (sfits_of c.i32-at.type-inv) (sfits_of (lit< tt))
-    ∙ ap (λ (m : ℤ). eq_z m (pos 1)) c.i32-at.ensures
+    eqb_is {w = w32} {x = c.i32_at.result} {y = pos 1} (sfits_of c.i32_at.type-inv) (sfits_of (lit< tt))
+    ∙ ap (λ (m : ℤ). eq_z m (pos 1)) c.i32_at.ensures
     ∙ sym (normal (signed w32 (be_at 4 s.args.g.now 44))) in
-    λ i. ltb s.args.t ((c.before.before.at_least_one.ensures ∙ (λ k. max (c.before.before.before.time-of.ensures k) 1)) i)
-    && leb s.args.clock (c.before.clock-limit.ensures i)
+    λ i. ltb s.args.t ((c.before.before.at_least_one.ensures ∙ (λ k. max (c.before.before.before.time_of.ensures k) 1)) i)
+    && leb s.args.clock (c.before.clock_limit.ensures i)
     && (eqb n 0 || eqb e 0)
     && (eqb n 0 || leb 14 n || eqb s.args.j 0)
     && (mode i || not (discharges_at n e))

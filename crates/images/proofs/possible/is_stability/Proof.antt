@@ -7,7 +7,7 @@ use Rattle.images.specs.Possible.{stability_possible}
 use Rattle.images.proofs.possible.is_stability.Statement.{statement}
 use Rattle.images.proofs.possible.is_stability.Tie as tie
 
-cast-result : tie.Need-overflow-cast-result
+cast-result : tie.Need-overflow_cast-result
 cast-result c = search rules
 
 given-requires : tie.Need-given-requires

@@ -32,29 +32,29 @@ fields s = record { zero = search sfits_of; tracked = search sfits_of; tare = se
 product : (a b : ℕ) → a < 2 ^ 32 → b < 2 ^ 32 → Fits w64 (a * b)
 product a b h k = fits_of (N.lt_of_le_of_lt (N.mul-le-mul {n₂ = 4294967295} {m₂ = 4294967295} (omega (arith, h)) (omega (arith, k))) (lit< tt))
 
-given-requires : tie.Need-given-requires
+given-requires : tie.Need-given-capacity-requires
 given-requires c κs = search rules
 
-cast-capacity : tie.Need-overflow-cast-capacity
+cast-capacity : tie.Need-overflow_cast-capacity
 cast-capacity c = search rules
 
-given-requires-2 : tie.Need-given-requires-2
+given-requires-2 : tie.Need-given-requires
 given-requires-2 c κs = search rules
 
-cast-zeroes : tie.Need-overflow-cast-zeroes
+cast-zeroes : tie.Need-overflow_cast-zeroes
 cast-zeroes c = search rules
 
-mul-zeroes : tie.Need-overflow-mul-zeroes
-mul-zeroes c = product c.before.given.result c.given2.result c.before.given.type-inv c.given2.type-inv
+mul-zeroes : tie.Need-overflow_mul-zeroes
+mul-zeroes c = product c.before.given-capacity.result c.given.result c.before.given-capacity.type-inv c.given.type-inv
 
-given-requires-3 : tie.Need-given-requires-3
+given-requires-3 : tie.Need-given-requires-2
 given-requires-3 c κs = search rules
 
-cast-tares : tie.Need-overflow-cast-tares
+cast-tares : tie.Need-overflow_cast-tares
 cast-tares c = search rules
 
-mul-tares : tie.Need-overflow-mul-tares
-mul-tares c = product c.before.before.given.result c.given3.result c.before.before.given.type-inv c.given3.type-inv
+mul-tares : tie.Need-overflow_mul-tares
+mul-tares c = product c.before.before.given-capacity.result c.given-2.result c.before.before.given-capacity.type-inv c.given-2.type-inv
 
 wide-requires : tie.Need-wide-requires
 wide-requires c κs = search rules
@@ -71,16 +71,16 @@ magnitude-requires-2 c κs = search rules
 size-requires : tie.Need-size-requires
 size-requires c κs = search rules
 
-given-requires-4 : tie.Need-given-requires-4
+given-requires-4 : tie.Need-given-requires-3
 given-requires-4 c κs = search rules
 
-cast-result : tie.Need-overflow-cast-result
+cast-result : tie.Need-overflow_cast-result
 cast-result c = search rules
 
-given-requires-5 : tie.Need-given-requires-5
+given-requires-5 : tie.Need-given-requires-4
 given-requires-5 c κs = search rules
 
-at-least-one-requires : tie.Need-at-least-one-requires
+at-least-one-requires : tie.Need-at_least_one-requires
 at-least-one-requires c κs = search rules
 
 wide-requires-2 : tie.Need-wide-requires-2
@@ -89,7 +89,7 @@ wide-requires-2 c κs = search rules
 magnitude-requires-3 : tie.Need-magnitude-requires-3
 magnitude-requires-3 c κs = search rules
 
-is-tracking-requires : tie.Need-is-tracking-requires
+is-tracking-requires : tie.Need-is_tracking-requires
 is-tracking-requires c κs = search rules
 
 returns : tie.Need-returns
@@ -98,22 +98,22 @@ returns c =
     let s = c.before.before.before.before.before.before.before.before.before.before.before.before.before.before.before.before.before.before.before.before.before.before.before.before.before.before in
     let f = fields s in
     let w = s.args.w in
-    let capacity = c.before.before.before.before.before.before.before.before.before.before.before.before.before.before.before.before.before.before.before.before.before.before.before.before.given.ensures in
-    let zeroing = c.before.before.before.before.before.before.before.before.before.before.before.before.before.before.before.before.before.before.before.before.before.before.before.given2.ensures in
-    let division = c.before.before.before.before.before.before.before.before.before.before.before.before.before.before.before.before.before.before.before.before.before.before.given3.ensures in
+    let capacity = c.before.before.before.before.before.before.before.before.before.before.before.before.before.before.before.before.before.before.before.before.before.before.before.before.given-capacity.ensures in
+    let zeroing = c.before.before.before.before.before.before.before.before.before.before.before.before.before.before.before.before.before.before.before.before.before.before.before.given.ensures in
+    let division = c.before.before.before.before.before.before.before.before.before.before.before.before.before.before.before.before.before.before.before.before.before.before.given-2.ensures in
     let zero = c.before.before.before.before.before.before.before.before.before.before.before.before.before.before.before.before.before.before.before.magnitude.ensures ∙ ap nat_abs ((be (got {w = w64} c.before.before.before.before.before.before.before.before.before.before.before.before.before.before.before.before.before.before.before.before.wide.result c.before.before.before.before.before.before.before.before.before.before.before.before.before.before.before.before.before.before.before.before.wide.type-inv) c.before.before.before.before.before.before.before.before.before.before.before.before.before.before.before.before.before.before.before.before.wide.ensures).read ∙ to_z-of_z f.zero) in
-    let keyed = c.before.before.before.before.before.before.before.before.before.before.before.before.before.before.before.magnitude2.ensures ∙ ap nat_abs ((be (got {w = w64} c.before.before.before.before.before.before.before.before.before.before.before.before.before.before.before.before.difference.result c.before.before.before.before.before.before.before.before.before.before.before.before.before.before.before.before.difference.type-inv) c.before.before.before.before.before.before.before.before.before.before.before.before.before.before.before.before.difference.ensures).read ∙ (λ k. to_z-of_z f.zero k -ℤ to_z-of_z f.tracked k)) in
+    let keyed = c.before.before.before.before.before.before.before.before.before.before.before.before.before.before.before.magnitude-2.ensures ∙ ap nat_abs ((be (got {w = w64} c.before.before.before.before.before.before.before.before.before.before.before.before.before.before.before.before.difference.result c.before.before.before.before.before.before.before.before.before.before.before.before.before.before.before.before.difference.type-inv) c.before.before.before.before.before.before.before.before.before.before.before.before.before.before.before.before.difference.ensures).read ∙ (λ k. to_z-of_z f.zero k -ℤ to_z-of_z f.tracked k)) in
     let tracked = c.before.before.before.before.before.before.before.before.before.before.before.before.before.size.ensures ∙ ap nat_abs (to_z-of_z f.tracked) in
-    let allowance = c.before.before.before.before.before.before.before.before.before.before.before.before.given4.ensures in
-    let time = c.before.before.before.before.before.before.before.before.before.at_least_one.ensures ∙ (λ k. max (c.before.before.before.before.before.before.before.before.before.before.given5.ensures k) 1) in
-    let tare = c.before.before.before.before.magnitude3.ensures ∙ ap nat_abs ((be (got {w = w64} c.before.before.before.before.before.wide2.result c.before.before.before.before.before.wide2.type-inv) c.before.before.before.before.before.wide2.ensures).read ∙ to_z-of_z f.tare) in
+    let allowance = c.before.before.before.before.before.before.before.before.before.before.before.before.given-3.ensures in
+    let time = c.before.before.before.before.before.before.before.before.before.at_least_one.ensures ∙ (λ k. max (c.before.before.before.before.before.before.before.before.before.before.given-4.ensures k) 1) in
+    let tare = c.before.before.before.before.magnitude-3.ensures ∙ ap nat_abs ((be (got {w = w64} c.before.before.before.before.before.wide-2.result c.before.before.before.before.before.wide-2.type-inv) c.before.before.before.before.before.wide-2.ensures).read ∙ to_z-of_z f.tare) in
     λ i. leb (zero i) (capacity i * zeroing i / 10)
     && leb (keyed i) (capacity i * zeroing i / 10)
     && leb (tracked i) (allowance i)
     && ltb w.counter (time i)
     && le_z (pos 0) (to_z-of_z f.tare i)
     && leb (tare i) (capacity i * division i)
-    && (c.before.before.before.is-tracking.ensures i || (eqb w.counter 0 && eqb_is {y = pos 0} f.tracked (sfits_of (lit< tt)) i))
+    && (c.before.before.before.is_tracking.ensures i || (eqb w.counter 0 && eqb_is {y = pos 0} f.tracked (sfits_of (lit< tt)) i))
 
 pub is_weighing_spec : {M : Type 1} → statement M
 is_weighing_spec =

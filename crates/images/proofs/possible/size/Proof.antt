@@ -19,7 +19,7 @@ wide-requires c κs = search rules
 magnitude-requires : tie.Need-magnitude-requires
 magnitude-requires c κs = search rules
 
-cast-result : tie.Need-overflow-cast-result
+cast-result : tie.Need-overflow_cast-result
 cast-result c = fits_of (omega (arith, sized c, abs_fits w32 c.before.before.ranges.x))
 
 returns : tie.Need-returns

@@ -11,37 +11,37 @@ use Rattle.outline.specs.Limits.{rise_limit}
 use Rattle.images.proofs.possible.sums_fit.Statement.{statement}
 use Rattle.images.proofs.possible.sums_fit.Tie as tie
 
-refilled : (c : tie.After-magnitude) → c.magnitude.result ≡ nat_abs c.before.args.refilled
-refilled c = simp (c.magnitude.ensures, to_z-of_z c.before.ranges.refilled)
+refilled : (c : tie.After-magnitude-r) → c.magnitude-r.result ≡ nat_abs c.before.args.refilled
+refilled c = simp (c.magnitude-r.ensures, to_z-of_z c.before.ranges.refilled)
 
-used : (c : tie.After-magnitude2) → c.magnitude2.result ≡ nat_abs c.before.before.before.args.used
-used c = simp (c.magnitude2.ensures, to_z-of_z c.before.before.before.ranges.used)
+used : (c : tie.After-magnitude-u) → c.magnitude-u.result ≡ nat_abs c.before.before.before.args.used
+used c = simp (c.magnitude-u.ensures, to_z-of_z c.before.before.before.ranges.used)
 
-magnitude-requires : tie.Need-magnitude-requires
+magnitude-requires : tie.Need-magnitude-r-requires
 magnitude-requires c κs = search rules
 
-returns : tie.Need-returns
+returns : tie.Need-returns-then-r-gt-SUM_ROOM
 returns c =
     let a = c.before.before.args in
-    let large : rise_limit * a.ticks < nat_abs a.refilled + nat_abs a.used = omega (arith, c.if1.true, refilled c.before, c.before.before.ranges.ticks) in
+    let large : rise_limit * a.ticks < nat_abs a.refilled + nat_abs a.used = omega (arith, c.if-r-gt-SUM_ROOM.true, refilled c.before, c.before.before.ranges.ticks) in
     sym (lt-leb _ _ large)
 
-magnitude-requires-2 : tie.Need-magnitude-requires-2
+magnitude-requires-2 : tie.Need-magnitude-u-requires
 magnitude-requires-2 c κs = search rules
 
-returns-2 : tie.Need-returns-2
+returns-2 : tie.Need-returns-then-u-gt-SUM_ROOM
 returns-2 c =
     let a = c.before.before.before.before.args in
-    let large : rise_limit * a.ticks < nat_abs a.refilled + nat_abs a.used = omega (arith, c.if2.true, used c.before, c.before.before.before.before.ranges.ticks) in
+    let large : rise_limit * a.ticks < nat_abs a.refilled + nat_abs a.used = omega (arith, c.if-u-gt-SUM_ROOM.true, used c.before, c.before.before.before.before.ranges.ticks) in
     sym (lt-leb _ _ large)
 
-add-result : tie.Need-overflow-add-result
+add-result : tie.Need-overflow_add-result
 add-result c = search rules
 
-mul-result : tie.Need-overflow-mul-result
+mul-result : tie.Need-overflow_mul-result
 mul-result c = search rules
 
-returns-3 : tie.Need-returns-3
+returns-3 : tie.Need-returns
 returns-3 c = λ i. leb (refilled c.before.before.before i + used c.before i) (rise_limit * c.before.before.before.before.args.ticks)
 
 pub sums_fit_spec : {M : Type 1} → statement M

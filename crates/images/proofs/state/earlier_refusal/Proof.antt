@@ -9,24 +9,24 @@ use Rattle.images.proofs.state.earlier_refusal.Statement.{statement}
 use Rattle.images.proofs.state.earlier_refusal.Tie as tie
 
 -- what was asked is the comparison with an image
-same : (c : tie.After-is-written) →
+same : (c : tie.After-is_written) →
     let l = c.before.before.before.args.e.now in
-    same_bytes (image_of (state_at l)) (grown_of l) ≡ c.is-written.result
+    same_bytes (image_of (state_at l)) (grown_of l) ≡ c.is_written.result
 same c =
     let l = c.before.before.before.args.e.now in
-    ap (same_bytes (image_of (state_at l))) (sym (filled_earlier l c.before.if1.false)) ∙ sym c.is-written.ensures
+    ap (same_bytes (image_of (state_at l))) (sym (filled_earlier l c.before.if-e-ne-EARLIER_LENGTH.false)) ∙ sym c.is_written.ensures
 
-returns : tie.Need-returns
-returns c = earlier_length_lem _ c.if1.true
+returns : tie.Need-returns-then-e-ne-EARLIER_LENGTH
+returns c = earlier_length_lem _ c.if-e-ne-EARLIER_LENGTH.true
 
-is-written-requires : tie.Need-is-written-requires
-is-written-requires c κs = ap is_image c.if1.false
+is-written-requires : tie.Need-is_written-requires
+is-written-requires c κs = ap is_image c.if-e-ne-EARLIER_LENGTH.false
 
-returns-2 : tie.Need-returns-2
-returns-2 c = earlier_same _ c.before.before.if1.false (same c.before ∙ c.if2.true)
+returns-2 : tie.Need-returns-then-is_written
+returns-2 c = earlier_same _ c.before.before.if-e-ne-EARLIER_LENGTH.false (same c.before ∙ c.if-is_written.true)
 
-returns-3 : tie.Need-returns-3
-returns-3 c = earlier_other _ c.before.before.if1.false (same c.before ∙ c.if2.false)
+returns-3 : tie.Need-returns
+returns-3 c = earlier_other _ c.before.before.if-e-ne-EARLIER_LENGTH.false (same c.before ∙ c.if-is_written.false)
 
 pub earlier_refusal_spec : {M : Type 1} → statement M
 earlier_refusal_spec = tie.close (tie.spec returns is-written-requires returns-2 returns-3)

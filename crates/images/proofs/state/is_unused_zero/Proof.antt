@@ -6,25 +6,25 @@ use Rattle.images.proofs.Read.{unused_state}
 use Rattle.images.proofs.state.is_unused_zero.Statement.{statement}
 use Rattle.images.proofs.state.is_unused_zero.Tie as tie
 
-are-zero-requires : tie.Need-are-zero-requires
+are-zero-requires : tie.Need-are_zero-requires
 are-zero-requires c κs = search rules
 
-are-zero-requires-2 : tie.Need-are-zero-requires-2
+are-zero-requires-2 : tie.Need-are_zero-requires-2
 are-zero-requires-2 c κs = search rules
 
-are-zero-requires-3 : tie.Need-are-zero-requires-3
+are-zero-requires-3 : tie.Need-are_zero-requires-3
 are-zero-requires-3 c κs = search rules
 
-are-zero-requires-4 : tie.Need-are-zero-requires-4
+are-zero-requires-4 : tie.Need-are_zero-requires-4
 are-zero-requires-4 c κs = search rules
 
-are-zero-requires-5 : tie.Need-are-zero-requires-5
+are-zero-requires-5 : tie.Need-are_zero-requires-5
 are-zero-requires-5 c κs = search rules
 
-are-zero-requires-6 : tie.Need-are-zero-requires-6
+are-zero-requires-6 : tie.Need-are_zero-requires-6
 are-zero-requires-6 c κs = search rules
 
-are-zero-requires-7 : tie.Need-are-zero-requires-7
+are-zero-requires-7 : tie.Need-are_zero-requires-7
 are-zero-requires-7 c κs = search rules
 
 returns : tie.Need-returns
@@ -35,7 +35,7 @@ returns c =
     let c3 = c4.before in
     let c2 = c3.before in
     let c1 = c2.before in
-    (λ i. c1.are-zero.ensures i && c2.are-zero2.ensures i && c3.are-zero3.ensures i && c4.are-zero4.ensures i && c5.are-zero5.ensures i && c6.are-zero6.ensures i && c.are-zero7.ensures i)
+    (λ i. c1.are_zero.ensures i && c2.are_zero-2.ensures i && c3.are_zero-3.ensures i && c4.are_zero-4.ensures i && c5.are_zero-5.ensures i && c6.are_zero-6.ensures i && c.are_zero-7.ensures i)
     ∙ unused_state c1.before.before.args.s.now
 
 pub is_unused_zero_spec : {M : Type 1} → statement M

@@ -18,45 +18,45 @@ abbrev decreases_loop : tie.decreases_loop
 decreases_loop part i₀ i = length part - i
 
 -- in a turn: the byte that was tested
-module _ (c : tie.After-is-digit invariant_loop decreases_loop) where
-  abbrev L : tie.At-loop invariant_loop decreases_loop
+module _ (c : tie.After-is_digit invariant_loop decreases_loop) where
+  abbrev L : tie.At-loop-i invariant_loop decreases_loop
   L = c.before.before
 
   abbrev S : List ℕ
   S = L.before.before.args.part.now
 
-  tested : c.is_digit.result ≡ is_digit (get_or S L.loop.i 0)
+  tested : c.is_digit.result ≡ is_digit (get_or S L.loop-i.i 0)
   tested = c.is_digit.ensures ∙ ap is_digit c.before.byte_at.ensures
 
-module _ (c : tie.Then1 invariant_loop decreases_loop) where
-  digit : is_digit (get_or (S c.before) (L c.before).loop.i 0) ≡ true
-  digit = sym (tested c.before) ∙ c.if1.true
+module _ (c : tie.In-loop-i invariant_loop decreases_loop) where
+  digit : is_digit (get_or (S c.before) (L c.before).loop-i.i 0) ≡ true
+  digit = sym (tested c.before) ∙ c.loop-i-test.true
 
-  within : (L c.before).loop.i < length (S c.before)
-  within = digit_within (S c.before) (L c.before).loop.i digit
+  within : (L c.before).loop-i.i < length (S c.before)
+  within = digit_within (S c.before) (L c.before).loop-i.i digit
 
-loop-holds : tie.Need-loop-init invariant_loop decreases_loop
+loop-holds : tie.Need-loop-i-init invariant_loop decreases_loop
 loop-holds c = omega arith
 
-byte-at-requires : tie.Need-byte-at-requires invariant_loop decreases_loop
+byte-at-requires : tie.Need-byte_at-requires invariant_loop decreases_loop
 byte-at-requires c κs = tt
 
-is-digit-requires : tie.Need-is-digit-requires invariant_loop decreases_loop
+is-digit-requires : tie.Need-is_digit-requires invariant_loop decreases_loop
 is-digit-requires c κs = tt
 
-add-i : tie.Need-overflow-add-i invariant_loop decreases_loop
+add-i : tie.Need-overflow_add-i invariant_loop decreases_loop
 add-i c = omega (arith, within c)
 
-loop-less : tie.Need-loop-smaller invariant_loop decreases_loop
+loop-less : tie.Need-loop-i-smaller invariant_loop decreases_loop
 loop-less c = omega (arith, within c)
 
-loop-again : tie.Need-loop-preserved invariant_loop decreases_loop
-loop-again c = omega (arith, (L c.before).loop.inv, run_goes (S c.before) (L c.before).loop.i (digit c))
+loop-again : tie.Need-loop-i-preserved invariant_loop decreases_loop
+loop-again c = omega (arith, (L c.before).loop-i.inv, run_goes (S c.before) (L c.before).loop-i.i (digit c))
 
 returns : tie.Need-returns invariant_loop decreases_loop
 returns c =
     let b = c.before in
-    omega (arith, (L b).loop.invariant, run_stops (S b) (L b).loop.i (sym (tested b) ∙ c.if1.false))
+    omega (arith, (L b).loop-i.invariant, run_stops (S b) (L b).loop-i.i (sym (tested b) ∙ c.loop-i-test.false))
 
 pub digit_run_spec : {M : Type 1} → statement M
 digit_run_spec =

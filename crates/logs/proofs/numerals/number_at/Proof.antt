@@ -20,7 +20,7 @@ use Rattle.logs.proofs.numerals.number_at.Statement.{statement}
 use Rattle.logs.proofs.numerals.number_at.Tie as tie
 
 -- where the digits begin, the part of the line from there on, and the count of them
-module _ (c : tie.After-digit-run) where
+module _ (c : tie.After-digit_run-n) where
   abbrev S : tie.Start
   S = c.before.before.before.before.before
 
@@ -28,38 +28,38 @@ module _ (c : tie.After-digit-run) where
   L = S.args.line.now
 
   abbrev F : ℕ
-  F = c.before.before.digits_from.result
+  F = c.before.before.digits_from-from.result
 
   abbrev D : List ℕ
-  D = c.before.part.result.now
+  D = c.before.part-digits.result.now
 
   abbrev N : ℕ
-  N = c.digit-run.result
+  N = c.digit_run-n.result
 
   begins : F ≡ digits_from L S.args.at
-  begins = c.before.before.digits_from.ensures ∙ ap (λ (b : ℕ). cond (eqb b 45) (suc S.args.at) S.args.at) c.before.before.before.byte_at.ensures
+  begins = c.before.before.digits_from-from.ensures ∙ ap (λ (b : ℕ). cond (eqb b 45) (suc S.args.at) S.args.at) c.before.before.before.byte_at-minus.ensures
 
   digits : D ≡ drop F L
-  digits = c.before.part.ensures ∙ part_to_end L F
+  digits = c.before.part-digits.ensures ∙ part_to_end L F
 
   few : N ≤ digit_run D
-  few = omega (arith, c.digit-run.ensures)
+  few = omega (arith, c.digit_run-n.ensures)
 
-byte-at-requires : tie.Need-byte-at-requires
+byte-at-requires : tie.Need-byte_at-minus-requires
 byte-at-requires c κs = tt
 
-digits-from-requires : tie.Need-digits-from-requires
+digits-from-requires : tie.Need-digits_from-from-requires
 digits-from-requires c κs h =
     let s = c.before.before.args in
-    omega (arith, minus_within s.line.now s.at (ap (λ (b : ℕ). eqb b 45) (sym c.byte_at.ensures) ∙ h))
+    omega (arith, minus_within s.line.now s.at (ap (λ (b : ℕ). eqb b 45) (sym c.byte_at-minus.ensures) ∙ h))
 
-part-requires : tie.Need-part-requires
+part-requires : tie.Need-part-digits-requires
 part-requires c κs = tt
 
-digit-run-requires : tie.Need-digit-run-requires
+digit-run-requires : tie.Need-digit_run-n-requires
 digit-run-requires c κs = tt
 
-value-of-requires : tie.Need-value-of-requires
+value-of-requires : tie.Need-value_of-requires
 value-of-requires c κs = (omega arith, few c.before.before)
 
 signed-requires : tie.Need-signed-requires
@@ -67,27 +67,27 @@ signed-requires c κs =
     let g = c.before.before.before in
     omega (arith, c.value_of_lem.ensures, value_limit (D g) (N g) 9 (few g) (omega arith))
 
-add-t12 : tie.Need-overflow-add-t12
+add-t12 : tie.Need-overflow_add-result
 add-t12 c =
     let g = c.before.before.before.before in
     omega (arith, few g, run_length (D g), ap length (digits g), length-drop (F g) (L g))
 
-returns : tie.Need-returns
+returns : tie.Need-returns-in-1-to-9
 returns c =
     let g = c.before.before.before.before in
     ap (λ (z : ℤ). Number z (F g + N g)) (to_z-of_z (sfits_of {w = w32} c.signed.type-inv))
-    ∙ number_read (L g) (S g).args.at _ _ _ (begins g) (digits g) g.digit-run.ensures _
-    (c.signed.ensures ∙ simp (c.before.value_of_lem.ensures, g.before.before.before.byte_at.ensures)) (omega arith) (omega arith)
+    ∙ number_read (L g) (S g).args.at _ _ _ (begins g) (digits g) g.digit_run-n.ensures _
+    (c.signed.ensures ∙ simp (c.before.value_of_lem.ensures, g.before.before.before.byte_at-minus.ensures)) (omega arith) (omega arith)
 
-returns-2 : tie.Need-returns-2
+returns-2 : tie.Need-returns-in_default
 returns-2 c =
     let g = c.before in
-    no_digit (L g) (S g).args.at _ _ _ (begins g) (digits g) g.digit-run.ensures (omega arith)
+    no_digit (L g) (S g).args.at _ _ _ (begins g) (digits g) g.digit_run-n.ensures (omega arith)
 
-returns-3 : tie.Need-returns-3
+returns-3 : tie.Need-returns-in_default-2
 returns-3 c =
     let g = c.before.before in
-    many_digits (L g) (S g).args.at _ _ _ (begins g) (digits g) g.digit-run.ensures (omega arith)
+    many_digits (L g) (S g).args.at _ _ _ (begins g) (digits g) g.digit_run-n.ensures (omega arith)
 
 pub number_at_spec : {M : Type 1} → statement M
 number_at_spec =

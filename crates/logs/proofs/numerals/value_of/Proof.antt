@@ -16,7 +16,7 @@ abbrev decreases_loop : tie.decreases_loop
 decreases_loop part n v₀ i₀ v i = n - i
 
 -- in a turn: the next byte is a digit, and the number has eight digits at most
-module _ (c : tie.In-loop invariant_loop decreases_loop) where
+module _ (c : tie.In-loop-i invariant_loop decreases_loop) where
   abbrev P : tie.Start invariant_loop decreases_loop
   P = c.before.before.before
 
@@ -24,51 +24,51 @@ module _ (c : tie.In-loop invariant_loop decreases_loop) where
   S = P.args.part.now
 
   abbrev I : ℕ
-  I = c.before.loop.i
+  I = c.before.loop-i.i
 
   left : I < digit_run S
-  left = omega (arith, P.pre, c.loop-test.true)
+  left = omega (arith, P.pre, c.loop-i-test.true)
 
-  small : c.before.loop.v < 100000000
-  small = rw c.before.loop.invariant.1 (value_limit S I 8 (omega (arith, left)) (omega (arith, P.pre, c.loop-test.true)))
+  small : c.before.loop-i.v < 100000000
+  small = rw c.before.loop-i.invariant.1 (value_limit S I 8 (omega (arith, left)) (omega (arith, P.pre, c.loop-i-test.true)))
 
 -- what was read of it
-range : (c : tie.After-byte-at invariant_loop decreases_loop) → (48 ≤ c.byte_at.result) × (c.byte_at.result ≤ 57)
+range : (c : tie.After-byte_at invariant_loop decreases_loop) → (48 ≤ c.byte_at.result) × (c.byte_at.result ≤ 57)
 range c = rw c.byte_at.ensures (byte_range (S c.before) (I c.before) (left c.before))
 
-loop-holds : tie.Need-loop-init invariant_loop decreases_loop
+loop-holds : tie.Need-loop-i-init invariant_loop decreases_loop
 loop-holds c = (zero-le, refl)
 
-mul-v : tie.Need-overflow-mul-v invariant_loop decreases_loop
+mul-v : tie.Need-overflow_mul-v invariant_loop decreases_loop
 mul-v c = omega (arith, small c)
 
-byte-at-requires : tie.Need-byte-at-requires invariant_loop decreases_loop
+byte-at-requires : tie.Need-byte_at-requires invariant_loop decreases_loop
 byte-at-requires c κs = tt
 
-sub-v : tie.Need-overflow-sub-v invariant_loop decreases_loop
+sub-v : tie.Need-overflow_sub-v invariant_loop decreases_loop
 sub-v c = (range c).0
 
-cast-v : tie.Need-overflow-cast-v invariant_loop decreases_loop
+cast-v : tie.Need-overflow_cast-v invariant_loop decreases_loop
 cast-v c = omega (arith, range c)
 
-add-v : tie.Need-overflow-add-v invariant_loop decreases_loop
+add-v : tie.Need-overflow_add-v invariant_loop decreases_loop
 add-v c = omega (arith, small c.before, range c)
 
-add-i : tie.Need-overflow-add-i invariant_loop decreases_loop
-add-i c = omega (arith, c.before.loop-test.true)
+add-i : tie.Need-overflow_add-i invariant_loop decreases_loop
+add-i c = omega (arith, c.before.loop-i-test.true)
 
-loop-less : tie.Need-loop-smaller invariant_loop decreases_loop
-loop-less c = omega (arith, c.before.loop-test.true)
+loop-less : tie.Need-loop-i-smaller invariant_loop decreases_loop
+loop-less c = omega (arith, c.before.loop-i-test.true)
 
-loop-again : tie.Need-loop-preserved invariant_loop decreases_loop
+loop-again : tie.Need-loop-i-preserved invariant_loop decreases_loop
 loop-again c =
     let t = c.before in
-    (omega (arith, t.loop-test.true), sym (value_more (S t) (I t) (omega (arith, left t, run_length (S t))) ∙ simp (← t.before.loop.invariant.1, ← c.byte_at.ensures)))
+    (omega (arith, t.loop-i-test.true), sym (value_more (S t) (I t) (omega (arith, left t, run_length (S t))) ∙ simp (← t.before.loop-i.invariant.1, ← c.byte_at.ensures)))
 
 returns : tie.Need-returns invariant_loop decreases_loop
 returns c =
-    let whole : c.before.loop.i ≡ c.before.before.before.args.n = omega (arith, c.before.loop.invariant.0, c.loop-test.false) in
-    c.before.loop.invariant.1 ∙ simp whole
+    let whole : c.before.loop-i.i ≡ c.before.before.before.args.n = omega (arith, c.before.loop-i.invariant.0, c.loop-i-test.false) in
+    c.before.loop-i.invariant.1 ∙ simp whole
 
 pub value_of_spec : {M : Type 1} → statement M
 value_of_spec =

@@ -16,29 +16,29 @@ abbrev decreases_loop : tie.decreases_loop
 decreases_loop n k₀ rest₀ k rest = rest
 
 -- in a turn, one digit more is allowed
-more : (c : tie.In-loop invariant_loop decreases_loop) → 2 ≤ 21 - c.before.loop.k
-more c = two_allowed (21 - c.before.loop.k) c.before.loop.rest c.before.loop.invariant.2 c.loop-test.true
+more : (c : tie.In-loop-rest invariant_loop decreases_loop) → 2 ≤ 21 - c.before.loop-rest.k
+more c = two_allowed (21 - c.before.loop-rest.k) c.before.loop-rest.rest c.before.loop-rest.invariant.2 c.loop-rest-test.true
 
-loop-holds : tie.Need-loop-init invariant_loop decreases_loop
+loop-holds : tie.Need-loop-rest-init invariant_loop decreases_loop
 unfolding decimal_text
 loop-holds c = (omega arith, omega arith, omega arith, omega arith)
 
-add-k : tie.Need-overflow-add-k invariant_loop decreases_loop
+add-k : tie.Need-overflow_add-k invariant_loop decreases_loop
 add-k c = omega arith
 
-loop-less : tie.Need-loop-smaller invariant_loop decreases_loop
+loop-less : tie.Need-loop-rest-smaller invariant_loop decreases_loop
 loop-less c = div-lt_self (omega arith) (omega arith)
 
-loop-again : tie.Need-loop-preserved invariant_loop decreases_loop
+loop-again : tie.Need-loop-rest-preserved invariant_loop decreases_loop
 loop-again c =
-    let l = c.before.loop in
+    let l = c.before.loop-rest in
     let m : 21 - l.k ≡ suc (21 - (l.k + 1)) = omega (arith, more c) in
-    (omega arith, omega (arith, more c), tenth_below (21 - l.k) (21 - (l.k + 1)) l.rest m l.invariant.2, omega (arith, digits_go_on (21 - l.k) (21 - (l.k + 1)) l.rest m c.loop-test.true))
+    (omega arith, omega (arith, more c), tenth_below (21 - l.k) (21 - (l.k + 1)) l.rest m l.invariant.2, omega (arith, digits_go_on (21 - l.k) (21 - (l.k + 1)) l.rest m c.loop-rest-test.true))
 
 returns : tie.Need-returns invariant_loop decreases_loop
 returns c =
-    let l = c.before.loop in
-    omega (arith, digits_end (21 - l.k) (20 - l.k) l.rest (omega arith) c.loop-test.false)
+    let l = c.before.loop-rest in
+    omega (arith, digits_end (21 - l.k) (20 - l.k) l.rest (omega arith) c.loop-rest-test.false)
 
 pub digit_count_spec : {M : Type 1} → statement M
 digit_count_spec = tie.close (tie.spec invariant_loop decreases_loop loop-holds add-k loop-less loop-again returns)

@@ -20,7 +20,7 @@ use Rattle.logs.proofs.pairs.put_number.Statement.{statement}
 use Rattle.logs.proofs.pairs.put_number.Tie as tie
 
 -- behind the digits
-module _ (d : tie.After-digits-at) where
+module _ (d : tie.After-digits_at-next) where
   abbrev S : tie.Start
   S = d.before.before.before.before.before
 
@@ -28,49 +28,49 @@ module _ (d : tie.After-digits-at) where
   A = S.args.a
 
   abbrev D : List ℕ
-  D = digits_of d.before.digit-count.result A.size
+  D = digits_of d.before.digit_count.result A.size
 
   digits : D ≡ decimal_text A.size
-  digits = ap (λ (k : ℕ). digits_of k A.size) d.before.digit-count.ensures ∙ decimal_digits_lem A.size
+  digits = ap (λ (k : ℕ). digits_of k A.size) d.before.digit_count.ensures ∙ decimal_digits_lem A.size
 
-  room : S.args.at + d.before.before.sign_length.result + length D ≤ length (set S.args.out.now S.args.at 45)
-  room = rw length-set (omega (arith, length_digits d.before.digit-count.result A.size, d.before.digit-count.ensures, d.before.before.sign_length.ensures, number_length A, S.pre))
+  room : S.args.at + d.before.before.sign_length.result + length D ≤ length (set S.args.out-1.now S.args.at 45)
+  room = rw length-set (omega (arith, length_digits d.before.digit_count.result A.size, d.before.digit_count.ensures, d.before.before.sign_length.ensures, number_length A, S.pre))
 
-  put : Put (set S.args.out.now S.args.at 45) (S.args.at + d.before.before.sign_length.result) (decimal_text A.size) d.digits-at.last.0 d.digits-at.result (length D)
-  put = same digits (put_fits (set S.args.out.now S.args.at 45) (S.args.at + d.before.before.sign_length.result) D room d.digits-at.ensures.0 d.digits-at.ensures.1)
+  put : Put (set S.args.out-1.now S.args.at 45) (S.args.at + d.before.before.sign_length.result) (decimal_text A.size) d.digits_at-next.last.0 d.digits_at-next.result (length D)
+  put = same digits (put_fits (set S.args.out-1.now S.args.at 45) (S.args.at + d.before.before.sign_length.result) D room d.digits_at-next.ensures.0 d.digits_at-next.ensures.1)
 
-  signed : Put S.args.out.now S.args.at (cond A.minus (45 ∷ []) [] ++ decimal_text A.size) d.digits-at.last.0 d.digits-at.result (cond A.minus 1 0 + length (decimal_text A.size))
+  signed : Put S.args.out-1.now S.args.at (cond A.minus (45 ∷ []) [] ++ decimal_text A.size) d.digits_at-next.last.0 d.digits_at-next.result (cond A.minus 1 0 + length (decimal_text A.size))
   signed = record {
-    stored = put.stored ∙ ap (λ (k : ℕ). sets (set S.args.out.now S.args.at 45) (S.args.at + k) (decimal_text A.size)) d.before.before.sign_length.ensures ∙ signed_sets A.minus S.args.out.now S.args.at (decimal_text A.size) (decimal_some A.size);
+    stored = put.stored ∙ ap (λ (k : ℕ). sets (set S.args.out-1.now S.args.at 45) (S.args.at + k) (decimal_text A.size)) d.before.before.sign_length.ensures ∙ signed_sets A.minus S.args.out-1.now S.args.at (decimal_text A.size) (decimal_some A.size);
     behind = omega (arith, put.behind, put.long, d.before.before.sign_length.ensures);
     long = simp (length-append, sign_length);
   }
 
-  end : d.digits-at.result + 1 ≤ length S.args.out.now
+  end : d.digits_at-next.result + 1 ≤ length S.args.out-1.now
   end = omega (arith, signed.behind, number_length A, S.pre)
 
-slice-write-out : tie.Need-slice-write-out
+slice-write-out : tie.Need-bounds-out-at
 slice-write-out c = omega (arith, number_length c.before.args.a, c.before.requires)
 
-sign-length-requires : tie.Need-sign-length-requires
+sign-length-requires : tie.Need-sign_length-requires
 sign-length-requires c κs = tt
 
-add-digits-at : tie.Need-overflow-add-digits-at
+add-digits-at : tie.Need-overflow_add-at
 add-digits-at c = let s = c.before.before.before in omega (arith, number_length s.args.a, s.requires, c.sign_length.ensures)
 
-digit-count-requires : tie.Need-digit-count-requires
+digit-count-requires : tie.Need-digit_count-requires
 digit-count-requires c κs = tt
 
-digits-at-requires : tie.Need-digits-at-requires
+digits-at-requires : tie.Need-digits_at-next-requires
 digits-at-requires c κs = tt
 
-slice-write-out-2 : tie.Need-slice-write-out-2
+slice-write-out-2 : tie.Need-bounds-out-next
 slice-write-out-2 c = let d = c.before.before in omega (arith, end d, put_length (signed d))
 
-add-result : tie.Need-overflow-add-result
+add-result : tie.Need-overflow_add-result
 add-result c = omega (arith, end c.before.before)
 
-same_length : tie.Need-same-length
+same_length : tie.Need-shape_of-out
 same_length c = simp length-set (put_length (signed c.before.before))
 
 returns : tie.Need-returns

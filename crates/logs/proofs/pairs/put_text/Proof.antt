@@ -29,8 +29,8 @@ eight : (s : tie.Start invariant_loop decreases_loop) → length s.args.t3 ≡ 8
 eight s = search rules
 
 -- in a turn: the byte of the keys, and what is left of the text
-module _ (c : tie.After-shared-slice-known2 invariant_loop decreases_loop) where
-  abbrev L : tie.At-loop invariant_loop decreases_loop
+module _ (c : tie.After-shared_slice_known-in-loop-i-1 invariant_loop decreases_loop) where
+  abbrev L : tie.At-loop-i invariant_loop decreases_loop
   L = c.before.before
 
   abbrev S : tie.Start invariant_loop decreases_loop
@@ -40,105 +40,105 @@ module _ (c : tie.After-shared-slice-known2 invariant_loop decreases_loop) where
   K = S.args.keys.now
 
   abbrev I : ℕ
-  I = L.loop.i
+  I = L.loop-i.i
 
   within : I < length K
-  within = c.before.loop-test.true
+  within = c.before.loop-i-test.true
 
-  some : 1 ≤ length (filled (drop I K) (drop L.loop.line S.args.t3))
-  some = filled_some K I within (drop L.loop.line S.args.t3)
+  some : 1 ≤ length (filled (drop I K) (drop L.loop-i.line S.args.t3))
+  some = filled_some K I within (drop L.loop-i.line S.args.t3)
 
-  room : L.loop.at < length L.loop.out
-  room = omega (arith, some, S.pre.1, L.loop.inv.0, L.loop.inv.2)
+  room : L.loop-i.at < length L.loop-i.out-1
+  room = omega (arith, some, S.pre.1, L.loop-i.inv.0, L.loop-i.inv.2)
 
 -- where the byte is a `=`
-module _ (c : tie.Else1 invariant_loop decreases_loop) where
-  abbrev B : tie.After-shared-slice-known2 invariant_loop decreases_loop
+module _ (c : tie.Else-byte-ne-EQUALS invariant_loop decreases_loop) where
+  abbrev B : tie.After-shared_slice_known-in-loop-i-1 invariant_loop decreases_loop
   B = c.before
 
   mark : eqb (get_or (K B) (I B) 0) 61 ≡ true
-  mark = eq-eqb _ _ c.if1.false
+  mark = eq-eqb _ _ c.if-byte-ne-EQUALS.false
 
   counted : marks (drop (I B) (K B)) ≡ suc (marks (drop (I B + 1) (K B)))
   counted = marks_mark (K B) (I B) (within B) mark
 
-  one : (L B).loop.line < 8
-  one = omega (arith, counted, (L B).loop.inv.1)
+  one : (L B).loop-i.line < 8
+  one = omega (arith, counted, (L B).loop-i.inv.1)
 
-  rest : filled (drop (I B) (K B)) (drop (L B).loop.line (S B).args.t3) ≡ get_or (K B) (I B) 0 ∷ (number_line (get_or (S B).args.t3 (L B).loop.line (count_of 0)) ++ filled (drop (I B + 1) (K B)) (drop ((L B).loop.line + 1) (S B).args.t3))
-  rest = filled_mark (K B) (I B) (within B) (S B).args.t3 (L B).loop.line (count_of 0) mark (rw (eight (S B)) one)
+  rest : filled (drop (I B) (K B)) (drop (L B).loop-i.line (S B).args.t3) ≡ get_or (K B) (I B) 0 ∷ (number_line (get_or (S B).args.t3 (L B).loop-i.line (count_of 0)) ++ filled (drop (I B + 1) (K B)) (drop ((L B).loop-i.line + 1) (S B).args.t3))
+  rest = filled_mark (K B) (I B) (within B) (S B).args.t3 (L B).loop-i.line (count_of 0) mark (rw (eight (S B)) one)
 
-loop-holds : tie.Need-loop-init invariant_loop decreases_loop
+loop-holds : tie.Need-loop-i-init invariant_loop decreases_loop
 loop-holds c = (refl, omega (arith, c.before.before.requires.0), omega arith, refl)
 
-shared-slice-read-byte : tie.Need-shared-slice-read-byte invariant_loop decreases_loop
+shared-slice-read-byte : tie.Need-bounds-keys-i invariant_loop decreases_loop
 shared-slice-read-byte c = within c
 
-slice-write-out : tie.Need-slice-write-out invariant_loop decreases_loop
+slice-write-out : tie.Need-bounds-out-at invariant_loop decreases_loop
 slice-write-out c = room c
 
-add_at : tie.Need-overflow-add-at invariant_loop decreases_loop
+add_at : tie.Need-overflow_add-at invariant_loop decreases_loop
 add_at c = omega (arith, room c)
 
-add-i : tie.Need-overflow-add-i invariant_loop decreases_loop
+add-i : tie.Need-overflow_add-i invariant_loop decreases_loop
 add-i c = omega (arith, within c)
 
-loop-less : tie.Need-loop-smaller invariant_loop decreases_loop
+loop-less : tie.Need-loop-i-smaller-then-byte-ne-EQUALS invariant_loop decreases_loop
 loop-less c = omega (arith, within c.before)
 
-loop-again : tie.Need-loop-preserved invariant_loop decreases_loop
+loop-again : tie.Need-loop-i-preserved-then-byte-ne-EQUALS invariant_loop decreases_loop
 loop-again c =
     let b = c.before in
-    let l = (L b).loop in
-    let plain = ne_eqb _ _ c.if1.true in
+    let l = (L b).loop-i in
+    let plain = ne_eqb _ _ c.if-byte-ne-EQUALS.true in
     let e = filled_plain (K b) (I b) (within b) (drop l.line (S b).args.t3) plain in (
       simp length-set l.inv.0,
       rw (← marks_plain (K b) (I b) (within b) plain) l.inv.1,
       omega (arith, ap length e, l.inv.2),
-      put_byte l.out l.at _ _ _ e ∙ l.inv.3,
+      put_byte l.out-1 l.at _ _ _ e ∙ l.inv.3,
     )
 
-mul-put-number : tie.Need-overflow-mul-put-number invariant_loop decreases_loop
+mul-put-number : tie.Need-offset_bounds-amounts-line invariant_loop decreases_loop
 mul-put-number c = omega (arith, one c.before)
 
-array-copy-out-put-number : tie.Need-array-copy-out-put-number invariant_loop decreases_loop
+array-copy-out-put-number : tie.Need-bounds-amounts-line invariant_loop decreases_loop
 array-copy-out-put-number c = one c.before
 
-put-number-requires : tie.Need-put-number-requires invariant_loop decreases_loop
+put-number-requires : tie.Need-put_number-at-requires invariant_loop decreases_loop
 put-number-requires c κs =
     let e = c.before.before in
-    let l = (L (B e)).loop in
+    let l = (L (B e)).loop-i in
     rw length-set (omega (arith, simp length-append at (ap length (rest e)), l.inv.2, l.inv.0, (S (B e)).pre.1))
 
-add-line : tie.Need-overflow-add-line invariant_loop decreases_loop
+add-line : tie.Need-overflow_add-line invariant_loop decreases_loop
 add-line c = omega (arith, one c.before.before.before.before.before)
 
-loop-less-2 : tie.Need-loop-smaller-2 invariant_loop decreases_loop
+loop-less-2 : tie.Need-loop-i-smaller invariant_loop decreases_loop
 loop-less-2 c = omega (arith, within c.before.before.before.before.before.before)
 
-loop-again-2 : tie.Need-loop-preserved-2 invariant_loop decreases_loop
+loop-again-2 : tie.Need-loop-i-preserved invariant_loop decreases_loop
 loop-again-2 c =
     let put = c.before.before in
     let e = put.before.before.before in
-    let l = (L (B e)).loop in
-    let p = put.put-number.ensures in (
+    let l = (L (B e)).loop-i in
+    let p = put.put_number-at.ensures in (
       put_length p ∙ simp length-set l.inv.0,
       omega (arith, counted e, l.inv.1),
       omega (arith, simp length-append at (ap length (rest e)), l.inv.2, p.behind),
-      put_more _ _ p ∙ put_byte l.out l.at _ _ _ (rest e) ∙ l.inv.3,
+      put_more _ _ p ∙ put_byte l.out-1 l.at _ _ _ (rest e) ∙ l.inv.3,
     )
 
-same_length : tie.Need-same-length invariant_loop decreases_loop
-same_length c = c.before.loop.invariant.0
+same_length : tie.Need-shape_of-out invariant_loop decreases_loop
+same_length c = c.before.loop-i.invariant.0
 
 returns : tie.Need-returns invariant_loop decreases_loop
 returns c =
     let l = c.before in
     let k = l.before.before.before.args.keys.now in
-    let s = drop l.loop.line l.before.before.before.args.t3 in
+    let s = drop l.loop-i.line l.before.before.before.args.t3 in
     record {
-      stored = sym (put_end l.loop.out k s l.loop.at l.loop.i c.loop-test.false) ∙ l.loop.invariant.3;
-      behind = omega (arith, l.loop.invariant.2, filled_end k s l.loop.i c.loop-test.false);
+      stored = sym (put_end l.loop-i.out-1 k s l.loop-i.at l.loop-i.i c.loop-i-test.false) ∙ l.loop-i.invariant.3;
+      behind = omega (arith, l.loop-i.invariant.2, filled_end k s l.loop-i.i c.loop-i-test.false);
       long = refl;
     }
 

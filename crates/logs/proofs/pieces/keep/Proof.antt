@@ -16,55 +16,55 @@ invariant_loop space₀ from all kept i₀ space i =
 abbrev decreases_loop : tie.decreases_loop
 decreases_loop space₀ from all kept i₀ space i = kept - i
 
-part-requires : tie.Need-part-requires invariant_loop decreases_loop
+part-requires : tie.Need-part-kept-requires invariant_loop decreases_loop
 part-requires c κs = tt
 
-loop-holds : tie.Need-loop-init invariant_loop decreases_loop
+loop-holds : tie.Need-loop-i-init invariant_loop decreases_loop
 loop-holds c =
     let a = c.before.before.before.args in
-    let e = ap length c.part.ensures in
+    let e = ap length c.part-kept.ensures in
     (zero-le, e, omega (arith, e, between_within a.space.now a.from a.all), refl, refl)
 
 -- in a turn: both places are within the buffer
-module _ (c : tie.In-loop invariant_loop decreases_loop) where
-  abbrev L : tie.At-loop invariant_loop decreases_loop
+module _ (c : tie.In-loop-i invariant_loop decreases_loop) where
+  abbrev L : tie.At-loop-i invariant_loop decreases_loop
   L = c.before
 
   abbrev A : tie.Start invariant_loop decreases_loop
   A = L.before.before.before.before
 
-  within : A.args.from + L.loop.i < length A.args.space.now
-  within = omega (arith, c.loop-test.true, L.loop.inv.2)
+  within : A.args.from + L.loop-i.i < length A.args.space.now
+  within = omega (arith, c.loop-i-test.true, L.loop-i.inv.2)
 
-add-space : tie.Need-overflow-add-space invariant_loop decreases_loop
+add-space : tie.Need-overflow_add-space invariant_loop decreases_loop
 add-space c = search rules
 
-slice-read-space : tie.Need-slice-read-space invariant_loop decreases_loop
+slice-read-space : tie.Need-bounds-space-from invariant_loop decreases_loop
 slice-read-space c = search rules
 
-slice-write-space : tie.Need-slice-write-space invariant_loop decreases_loop
+slice-write-space : tie.Need-bounds-space-i invariant_loop decreases_loop
 slice-write-space c = search rules
 
-add-i : tie.Need-overflow-add-i invariant_loop decreases_loop
+add-i : tie.Need-overflow_add-i invariant_loop decreases_loop
 add-i c = search rules
 
-loop-less : tie.Need-loop-smaller invariant_loop decreases_loop
-loop-less c = omega (arith, c.before.loop-test.true)
+loop-less : tie.Need-loop-i-smaller invariant_loop decreases_loop
+loop-less c = omega (arith, c.before.loop-i-test.true)
 
-loop-again : tie.Need-loop-preserved invariant_loop decreases_loop
+loop-again : tie.Need-loop-i-preserved invariant_loop decreases_loop
 loop-again c =
     let t = c.before in
-    let l = (L t).loop in
+    let l = (L t).loop-i in
     let a = (A t).args in (
-      omega (arith, t.loop-test.true),
+      omega (arith, t.loop-i-test.true),
       l.inv.1,
       l.inv.2,
       simp length-set l.inv.3,
       rw (l.inv.4, read a.space.now a.from l.i (within t)) (move a.space.now a.from l.i (within t)),
     )
 
-same_length : tie.Need-same-length invariant_loop decreases_loop
-same_length c = c.before.loop.invariant.3
+same_length : tie.Need-shape_of-space invariant_loop decreases_loop
+same_length c = c.before.loop-i.invariant.3
 
 returns : tie.Need-returns invariant_loop decreases_loop
 unfolding kept_in
@@ -72,8 +72,8 @@ returns c =
     let l = c.before in
     let a = l.before.before.before.before.args in
     let s = a.space.now in
-    let all : l.loop.i ≡ length (between s a.from a.all) = omega (arith, l.loop.invariant.0, l.loop.invariant.1, c.loop-test.false) in
-    (l.loop.invariant.1, simp (l.loop.invariant.4, all, taken_whole (a.all - a.from) (drop a.from s)))
+    let all : l.loop-i.i ≡ length (between s a.from a.all) = omega (arith, l.loop-i.invariant.0, l.loop-i.invariant.1, c.loop-i-test.false) in
+    (l.loop-i.invariant.1, simp (l.loop-i.invariant.4, all, taken_whole (a.all - a.from) (drop a.from s)))
 
 pub keep_spec : {M : Type 1} → statement M
 keep_spec =

@@ -15,35 +15,35 @@ invariant_loop piece from i₀ i = lf_from i (drop i piece) ≡ next_lf piece fr
 abbrev decreases_loop : tie.decreases_loop
 decreases_loop piece from i₀ i = length piece - i
 
-loop-holds : tie.Need-loop-init invariant_loop decreases_loop
+loop-holds : tie.Need-loop-i-init invariant_loop decreases_loop
 unfolding next_lf
 loop-holds c = refl
 
-byte-at-requires : tie.Need-byte-at-requires invariant_loop decreases_loop
+byte-at-requires : tie.Need-byte_at-requires invariant_loop decreases_loop
 byte-at-requires c κs = tt
 
-returns : tie.Need-returns invariant_loop decreases_loop
+returns : tie.Need-returns-then-byte_at-eq-LF invariant_loop decreases_loop
 returns c =
     let t = c.before.before in
     let l = t.before in
-    sym (look l.before.before.args.piece.now l.loop.i t.loop-test.true ∙ simp (eq-eqb _ _ (sym c.before.byte_at.ensures ∙ c.if1.true))) ∙ l.loop.invariant
+    sym (look l.before.before.args.piece.now l.loop-i.i t.loop-i-test.true ∙ simp (eq-eqb _ _ (sym c.before.byte_at.ensures ∙ c.if-byte_at-eq-LF.true))) ∙ l.loop-i.invariant
 
-add-i : tie.Need-overflow-add-i invariant_loop decreases_loop
-add-i c = omega (arith, c.before.before.loop-test.true)
+add-i : tie.Need-overflow_add-i invariant_loop decreases_loop
+add-i c = omega (arith, c.before.before.loop-i-test.true)
 
-loop-less : tie.Need-loop-smaller invariant_loop decreases_loop
-loop-less c = omega (arith, c.before.before.loop-test.true)
+loop-less : tie.Need-loop-i-smaller invariant_loop decreases_loop
+loop-less c = omega (arith, c.before.before.loop-i-test.true)
 
-loop-again : tie.Need-loop-preserved invariant_loop decreases_loop
+loop-again : tie.Need-loop-i-preserved invariant_loop decreases_loop
 loop-again c =
     let t = c.before.before in
     let l = t.before in
-    sym (look l.before.before.args.piece.now l.loop.i t.loop-test.true ∙ simp (ne_eqb _ _ (λ q. c.if1.false (c.before.byte_at.ensures ∙ q)))) ∙ l.loop.invariant
+    sym (look l.before.before.args.piece.now l.loop-i.i t.loop-i-test.true ∙ simp (ne_eqb _ _ (λ q. c.if-byte_at-eq-LF.false (c.before.byte_at.ensures ∙ q)))) ∙ l.loop-i.invariant
 
-returns-2 : tie.Need-returns-2 invariant_loop decreases_loop
+returns-2 : tie.Need-returns invariant_loop decreases_loop
 returns-2 c =
     let l = c.before in
-    sym (simp (drop_of_length-le l.before.before.args.piece.now c.loop-test.false)) ∙ l.loop.invariant
+    sym (simp (drop_of_length-le l.before.before.args.piece.now c.loop-i-test.false)) ∙ l.loop-i.invariant
 
 pub next_lf_spec : {M : Type 1} → statement M
 next_lf_spec =

@@ -50,13 +50,13 @@ module _ (l : List ℕ) (from end f e : ℕ) (p : e ≡ min end (length l)) (q :
       go true h = some (leb-true _ _ h) (leb end (length l)) refl
       go false h = none (leb-false _ _ h) (leb end from) refl
 
-lesser-requires : tie.Need-lesser-requires
+lesser-requires : tie.Need-lesser-end-requires
 lesser-requires c κs = tt
 
-lesser-requires-2 : tie.Need-lesser-requires-2
+lesser-requires-2 : tie.Need-lesser-from-requires
 lesser-requires-2 c κs = tt
 
-sub-result : tie.Need-overflow-sub-result
+sub-result : tie.Need-slice_bounds-result-count
 sub-result c = search rules
 
 part-result-start : tie.Need-slice-bounds-result-start
@@ -67,10 +67,10 @@ part-result-end c = search rules
 
 returns : tie.Need-returns
 returns c =
-    let f = c.before.lesser2 in
-    let e = c.before.before.lesser in
+    let f = c.before.lesser-from in
+    let e = c.before.before.lesser-end in
     let a = c.before.before.before.before.args in
-    clipped a.bytes.now a.from a.end f.result e.result e.ensures f.ensures
+    clipped a.bytes.now a.from a.end f.result-1 e.result-1 e.ensures f.ensures
 
 pub part_spec : {M : Type 1} → statement M
 part_spec =

@@ -25,34 +25,34 @@ last s = search sfits_of
 tracked : (s : tie.Start) → SFits w32 s.args.weighing.tracked
 tracked s = search sfits_of
 
-cast-t6 : tie.Need-overflow-cast-t6
+cast-t6 : tie.Need-overflow_cast-batches
 cast-t6 c = search rules
 
 wide-requires : tie.Need-wide-requires
 wide-requires c κs = tt
 
-amount-of-requires : tie.Need-amount-of-requires
+amount-of-requires : tie.Need-amount_of-requires
 amount-of-requires c κs = tt
 
-amount-of-requires-2 : tie.Need-amount-of-requires-2
+amount-of-requires-2 : tie.Need-amount_of-requires-2
 amount-of-requires-2 c κs = tt
 
-amount-of-requires-3 : tie.Need-amount-of-requires-3
+amount-of-requires-3 : tie.Need-amount_of-requires-3
 amount-of-requires-3 c κs = tt
 
-amount-of-requires-4 : tie.Need-amount-of-requires-4
+amount-of-requires-4 : tie.Need-amount_of-requires-4
 amount-of-requires-4 c κs = tt
 
 wide-requires-2 : tie.Need-wide-requires-2
 wide-requires-2 c κs = tt
 
-amount-of-requires-5 : tie.Need-amount-of-requires-5
+amount-of-requires-5 : tie.Need-amount_of-requires-5
 amount-of-requires-5 c κs = tt
 
 wide-requires-3 : tie.Need-wide-requires-3
 wide-requires-3 c κs = tt
 
-amount-of-requires-6 : tie.Need-amount-of-requires-6
+amount-of-requires-6 : tie.Need-amount_of-requires-6
 amount-of-requires-6 c κs = tt
 
 returns : tie.Need-returns
@@ -64,22 +64,22 @@ returns c =
     let r = u.before.before in
     let o = r.before.before in
     simp (
-      o.amount-of.ensures,
+      o.amount_of.ensures,
       o.before.wide.ensures,
       to_z-of_z (opening s),
       to_z-of_z (wider (opening s)),
-      r.amount-of2.ensures,
+      r.amount_of-2.ensures,
       to_z-of_z (refilled s),
-      u.amount-of3.ensures,
+      u.amount_of-3.ensures,
       to_z-of_z (used s),
-      n.amount-of4.ensures,
+      n.amount_of-4.ensures,
       to_z-of_z (unbooked s),
-      l.amount-of5.ensures,
-      l.before.wide2.ensures,
+      l.amount_of-5.ensures,
+      l.before.wide-2.ensures,
       to_z-of_z (last s),
       to_z-of_z (wider (last s)),
-      c.amount-of6.ensures,
-      c.before.wide3.ensures,
+      c.amount_of-6.ensures,
+      c.before.wide-3.ensures,
       to_z-of_z (tracked s),
       to_z-of_z (wider (tracked s)),
     )

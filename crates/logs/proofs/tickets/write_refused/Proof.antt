@@ -8,17 +8,17 @@ use Rattle.logs.proofs.tickets.write_refused.Tie as tie
 slice-aggregate-write-text : tie.Need-slice-aggregate-write-text
 slice-aggregate-write-text c = search rules
 
-write-text-requires : tie.Need-write-text-requires
+write-text-requires : tie.Need-write_text-requires
 unfolding marks
 write-text-requires c κs = search rules
 
-same_length : tie.Need-same-length
+same_length : tie.Need-shape_of-out
 same_length c = search rules
 
 returns : tie.Need-returns
 returns c =
     let w = c.before.before in
-    rw (← refused_line w.before.before.before.before.args.number) w.write-text.ensures
+    rw (← refused_line w.before.before.before.before.args.number) w.write_text.ensures
 
 pub write_refused_spec : {M : Type 1} → statement M
 write_refused_spec =

@@ -5,34 +5,34 @@ use Rattle.logs.proofs.TextLaws.{ticket_none, ticket_lines, nothing}
 use Rattle.logs.proofs.tickets.write_ticket.Statement.{statement}
 use Rattle.logs.proofs.tickets.write_ticket.Tie as tie
 
-enum-known-closed : tie.Need-enum-known-closed
+enum-known-closed : tie.Need-enum_known-closed
 enum-known-closed c = search rules
 
-enum_told : tie.Need-enum-told
+enum_told : tie.Need-enum_told-1
 enum_told c = search rules
 
-returns : tie.Need-returns
-returns c = simp (c.enum_told.given.1, ticket_none) (nothing _)
+returns : tie.Need-returns-in_default
+returns c = simp (c.enum_told-1.given.1, ticket_none) (nothing _)
 
 slice-aggregate-write-text : tie.Need-slice-aggregate-write-text
 slice-aggregate-write-text c = search rules
 
-amounts-of-requires : tie.Need-amounts-of-requires
+amounts-of-requires : tie.Need-amounts_of-requires
 amounts-of-requires c κs = search rules
 
-write-text-requires : tie.Need-write-text-requires
+write-text-requires : tie.Need-write_text-requires
 unfolding marks
 write-text-requires c κs = search rules
 
-same_length : tie.Need-same-length
+same_length : tie.Need-shape_of-out
 same_length c = search rules
 
-returns-2 : tie.Need-returns-2
+returns-2 : tie.Need-returns
 returns-2 c =
     let w = c.before.before in
     let d = w.before.before.before.before.before in
     let a = d.before.before.before.args in
-    rw (← ticket_lines a.weighing a.totals _ d.closed.given.1 w.before.amounts-of.ensures) w.write-text.ensures
+    rw (← ticket_lines a.weighing a.totals _ d.closed-1.given.1 w.before.amounts_of.ensures) w.write_text.ensures
 
 pub write_ticket_spec : {M : Type 1} → statement M
 write_ticket_spec =

@@ -13,45 +13,45 @@ invariant_loop receive₀ command i₀ receive i = (i ≤ length command) × (le
 abbrev decreases_loop : tie.decreases_loop
 decreases_loop receive₀ command i₀ receive i = length command - i
 
-loop-holds : tie.Need-loop-init invariant_loop decreases_loop
+loop-holds : tie.Need-loop-i-init invariant_loop decreases_loop
 loop-holds c = (zero-le, refl, refl)
 
-shared-slice-read-receive : tie.Need-shared-slice-read-receive invariant_loop decreases_loop
+shared-slice-read-receive : tie.Need-bounds-command-i invariant_loop decreases_loop
 shared-slice-read-receive c = omega arith
 
-slice-write-receive : tie.Need-slice-write-receive invariant_loop decreases_loop
+slice-write-receive : tie.Need-bounds-receive-i invariant_loop decreases_loop
 slice-write-receive c = omega (arith, c.before.before.before.requires)
 
-add-i : tie.Need-overflow-add-i invariant_loop decreases_loop
+add-i : tie.Need-overflow_add-i invariant_loop decreases_loop
 add-i c = omega arith
 
-loop-less : tie.Need-loop-smaller invariant_loop decreases_loop
+loop-less : tie.Need-loop-i-smaller invariant_loop decreases_loop
 loop-less c = omega arith
 
-loop-again : tie.Need-loop-preserved invariant_loop decreases_loop
+loop-again : tie.Need-loop-i-preserved invariant_loop decreases_loop
 loop-again c =
     let l = c.before.before in
-    (omega arith, simp length-set l.loop.invariant.1, copied l.before.args.command.now _ l.loop.i c.before.loop-test.true (omega (arith, l.before.requires)) l.loop.invariant.2)
+    (omega arith, simp length-set l.loop-i.invariant.1, copied l.before.args.command.now _ l.loop-i.i c.before.loop-i-test.true (omega (arith, l.before.requires)) l.loop-i.invariant.2)
 
-slice-write-receive-2 : tie.Need-slice-write-receive-2 invariant_loop decreases_loop
+slice-write-receive-2 : tie.Need-bounds-receive-i-2 invariant_loop decreases_loop
 slice-write-receive-2 c = omega (arith, c.before.before.requires)
 
-add-receive : tie.Need-overflow-add-receive invariant_loop decreases_loop
+add-receive : tie.Need-overflow_add-receive invariant_loop decreases_loop
 add-receive c = omega (arith, c.before.before.requires)
 
-slice-write-receive-3 : tie.Need-slice-write-receive-3 invariant_loop decreases_loop
+slice-write-receive-3 : tie.Need-bounds-receive-i-3 invariant_loop decreases_loop
 slice-write-receive-3 c = simp length-set (omega (arith, c.before.before.requires))
 
-add-result : tie.Need-overflow-add-result invariant_loop decreases_loop
+add-result : tie.Need-overflow_add-result invariant_loop decreases_loop
 add-result c = omega (arith, c.before.before.requires)
 
-same_length : tie.Need-same-length invariant_loop decreases_loop
-same_length c = simp length-set c.before.loop.invariant.1
+same_length : tie.Need-shape_of-receive invariant_loop decreases_loop
+same_length c = simp length-set c.before.loop-i.invariant.1
 
 returns : tie.Need-returns invariant_loop decreases_loop
 returns c =
     let l = c.before in
-    (omega arith, ended l.before.args.command.now _ l.loop.i (omega arith) (omega (arith, l.before.requires)) l.loop.invariant.2)
+    (omega arith, ended l.before.args.command.now _ l.loop-i.i (omega arith) (omega (arith, l.before.requires)) l.loop-i.invariant.2)
 
 pub put_received_spec : {M : Type 1} → statement M
 put_received_spec =

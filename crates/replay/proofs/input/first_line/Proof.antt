@@ -4,13 +4,13 @@ use Rattle.logs.specs.LineLaws.{by_count}
 use Rattle.replay.proofs.input.first_line.Statement.{statement}
 use Rattle.replay.proofs.input.first_line.Tie as tie
 
-read-on-requires : tie.Need-read-on-requires
+read-on-requires : tie.Need-read_on-all-requires
 read-on-requires c κs = search rules
 
-line-at-requires : tie.Need-line-at-requires
+line-at-requires : tie.Need-line_at-requires
 line-at-requires c κs = search rules
 
-same_length : tie.Need-same-length
+same_length : tie.Need-shape_of-space
 same_length c = search rules
 
 returns : tie.Need-returns

@@ -8,33 +8,33 @@ use Rattle.logs.specs.LineLaws.{next_whole, next_read}
 use Rattle.replay.proofs.input.next_line.Statement.{statement}
 use Rattle.replay.proofs.input.next_line.Tie as tie
 
-line-behind-requires : tie.Need-line-behind-requires
+line-behind-requires : tie.Need-line_behind-next-requires
 line-behind-requires c κs = search rules
 
-same_length : tie.Need-same-length
+same_length : tie.Need-shape_of-space-then-next
 same_length c = search rules
 
-returns : tie.Need-returns
+returns : tie.Need-returns-then-next
 returns c =
-    let count : SFits w32 c.before.before.before.line-behind.result.said.count = search (sfits_of, c.struct_told.given) in
-    (simp (to_z-of_z count)) ∙ next_whole _ _ _ c.before.before.before.line-behind.ensures c.before.before.if1.true
+    let count : SFits w32 c.before.before.before.line_behind-next.result.said-1.count = search (sfits_of, c.struct_told-1.given) in
+    (simp (to_z-of_z count)) ∙ next_whole _ _ _ c.before.before.before.line_behind-next.ensures c.before.before.if-next.true
 
-keep-requires : tie.Need-keep-requires
+keep-requires : tie.Need-keep-kept-requires
 keep-requires c κs = search rules
 
-read-on-requires : tie.Need-read-on-requires
+read-on-requires : tie.Need-read_on-all-requires
 read-on-requires c κs = search rules
 
-line-at-requires : tie.Need-line-at-requires
+line-at-requires : tie.Need-line_at-requires
 line-at-requires c κs = search rules
 
-same-length-2 : tie.Need-same-length-2
+same-length-2 : tie.Need-shape_of-space
 same-length-2 c = search rules
 
-returns-2 : tie.Need-returns-2
+returns-2 : tie.Need-returns
 returns-2 c =
     let test = c.before.before.before.before.before.before.before.before.before.before in
-    next_read _ _ _ test.before.line-behind.ensures test.if1.false _ c.line_at_lem.ensures
+    next_read _ _ _ test.before.line_behind-next.ensures test.if-next.false _ c.line_at_lem.ensures
 
 pub next_line_spec : {M : Type 1} → statement M
 next_line_spec =

@@ -13,25 +13,25 @@ no_nan nan e = subst T e tt
 no_nan (inf s) e = tt
 no_nan (fin s m d) e = tt
 
-put-byte-requires : tie.Need-put-byte-requires
+put-byte-requires : tie.Need-put_byte-requires
 put-byte-requires c κs = search rules
 
-same_length : tie.Need-same-length
+same_length : tie.Need-shape_of-out-then-x
 same_length c = search rules
 
-returns : tie.Need-returns
+returns : tie.Need-returns-then-x
 returns c = search rules
 
-float-to-bits-put-bits : tie.Need-float-to-bits-put-bits
-float-to-bits-put-bits c = no_nan _ c.before.if1.false
+float-to-bits-put-bits : tie.Need-float_to_bits-x
+float-to-bits-put-bits c = no_nan _ c.before.if-x.false
 
-put-bits-requires : tie.Need-put-bits-requires
+put-bits-requires : tie.Need-put_bits-requires
 put-bits-requires c κs = search rules
 
-same-length-2 : tie.Need-same-length-2
+same-length-2 : tie.Need-shape_of-out
 same-length-2 c = search rules
 
-returns-2 : tie.Need-returns-2
+returns-2 : tie.Need-returns
 returns-2 c = search rules
 
 pub put_float_spec : {M : Type 1} → statement M

@@ -10,22 +10,22 @@ invariant_loop n k₀ rest₀ k rest = k ≤ 20
 abbrev decreases_loop : tie.decreases_loop
 decreases_loop n k₀ rest₀ k rest = 20 - k
 
-loop-holds : tie.Need-loop-init invariant_loop decreases_loop
+loop-holds : tie.Need-loop-k-init invariant_loop decreases_loop
 loop-holds c = search rules
 
-returns : tie.Need-returns invariant_loop decreases_loop
+returns : tie.Need-returns-then-rest-lt10 invariant_loop decreases_loop
 returns c = search rules
 
-add-k : tie.Need-overflow-add-k invariant_loop decreases_loop
+add-k : tie.Need-overflow_add-k invariant_loop decreases_loop
 add-k c = search rules
 
-loop-less : tie.Need-loop-smaller invariant_loop decreases_loop
+loop-less : tie.Need-loop-k-smaller invariant_loop decreases_loop
 loop-less c = search rules
 
-loop-again : tie.Need-loop-preserved invariant_loop decreases_loop
+loop-again : tie.Need-loop-k-preserved invariant_loop decreases_loop
 loop-again c = search rules
 
-returns-2 : tie.Need-returns-2 invariant_loop decreases_loop
+returns-2 : tie.Need-returns invariant_loop decreases_loop
 returns-2 c = search rules
 
 pub digits_of_spec : {M : Type 1} → statement M

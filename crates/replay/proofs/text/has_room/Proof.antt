@@ -7,13 +7,13 @@ use borrow.Author.Rules.{rules}
 use Rattle.replay.proofs.text.has_room.Statement.{statement}
 use Rattle.replay.proofs.text.has_room.Tie as tie
 
-returns : tie.Need-returns
+returns : tie.Need-returns-then-length-n
 returns c = let a = c.before.args in sym (lt-leb (a.at + a.n) a.length (omega arith))
 
-returns-2 : tie.Need-returns-2
+returns-2 : tie.Need-returns-then-length-n-2
 returns-2 c = let a = c.before.before.args in sym (lt-leb (a.at + a.n) a.length (omega arith))
 
-returns-3 : tie.Need-returns-3
+returns-3 : tie.Need-returns
 returns-3 c = let a = c.before.before.args in sym (le-leb (a.at + a.n) a.length (omega arith))
 
 pub has_room_spec : {M : Type 1} → statement M

@@ -14,43 +14,43 @@ invariant_loop out₀ at n k rest₀ i₀ out rest i = (length out ≡ length ou
 abbrev decreases_loop : tie.decreases_loop
 decreases_loop out₀ at n k rest₀ i₀ out rest i = i
 
-has-room-requires : tie.Need-has-room-requires invariant_loop decreases_loop
+has-room-requires : tie.Need-has_room-requires invariant_loop decreases_loop
 has-room-requires c κs = search rules
 
-returns : tie.Need-returns invariant_loop decreases_loop
+returns : tie.Need-returns-then-not-has_room invariant_loop decreases_loop
 returns c = search rules
 
-loop-holds : tie.Need-loop-init invariant_loop decreases_loop
-loop-holds c = (refl, room _ _ _ c.before.has_room.ensures c.if1.false, omega arith)
+loop-holds : tie.Need-loop-i-init invariant_loop decreases_loop
+loop-holds c = (refl, room _ _ _ c.before.has_room.ensures c.if-not-has_room.false, omega arith)
 
-sub-i : tie.Need-overflow-sub-i invariant_loop decreases_loop
+sub-i : tie.Need-overflow_sub-i invariant_loop decreases_loop
 sub-i c = search rules
 
-cast-out : tie.Need-overflow-cast-out invariant_loop decreases_loop
+cast-out : tie.Need-overflow_cast-out invariant_loop decreases_loop
 cast-out c = search rules
 
-add-out : tie.Need-overflow-add-out invariant_loop decreases_loop
+add-out : tie.Need-overflow_add-out invariant_loop decreases_loop
 add-out c = search rules
 
-add-out-2 : tie.Need-overflow-add-out-2 invariant_loop decreases_loop
+add-out-2 : tie.Need-overflow_add-out-in-loop-i invariant_loop decreases_loop
 add-out-2 c = search rules
 
-slice-write-out : tie.Need-slice-write-out invariant_loop decreases_loop
+slice-write-out : tie.Need-bounds-out-at invariant_loop decreases_loop
 slice-write-out c = search rules
 
-loop-less : tie.Need-loop-smaller invariant_loop decreases_loop
+loop-less : tie.Need-loop-i-smaller invariant_loop decreases_loop
 loop-less c = search rules
 
-loop-again : tie.Need-loop-preserved invariant_loop decreases_loop
+loop-again : tie.Need-loop-i-preserved invariant_loop decreases_loop
 loop-again c = search rules
 
-add-result : tie.Need-overflow-add-result invariant_loop decreases_loop
+add-result : tie.Need-overflow_add-result invariant_loop decreases_loop
 add-result c = search rules
 
-same_length : tie.Need-same-length invariant_loop decreases_loop
+same_length : tie.Need-shape_of-out invariant_loop decreases_loop
 same_length c = search rules
 
-returns-2 : tie.Need-returns-2 invariant_loop decreases_loop
+returns-2 : tie.Need-returns invariant_loop decreases_loop
 returns-2 c = search rules
 
 pub put_digits_spec : {M : Type 1} → statement M

@@ -12,40 +12,40 @@ invariant_loop out₀ at bytes n₀ i₀ out n i = length out ≡ length out₀
 abbrev decreases_loop : tie.decreases_loop
 decreases_loop out₀ at bytes n₀ i₀ out n i = length bytes - i
 
-put-byte-requires : tie.Need-put-byte-requires invariant_loop decreases_loop
+put-byte-requires : tie.Need-put_byte-requires invariant_loop decreases_loop
 put-byte-requires c κs = search rules
 
-same_length : tie.Need-same-length invariant_loop decreases_loop
+same_length : tie.Need-shape_of-out-then-bytes-eq0 invariant_loop decreases_loop
 same_length c = search rules
 
-returns : tie.Need-returns invariant_loop decreases_loop
+returns : tie.Need-returns-then-bytes-eq0 invariant_loop decreases_loop
 returns c = search rules
 
-loop-holds : tie.Need-loop-init invariant_loop decreases_loop
+loop-holds : tie.Need-loop-i-init invariant_loop decreases_loop
 loop-holds c = search rules
 
-shared-slice-read-wide-byte : tie.Need-shared-slice-read-wide-byte invariant_loop decreases_loop
+shared-slice-read-wide-byte : tie.Need-bounds-bytes-i invariant_loop decreases_loop
 shared-slice-read-wide-byte c = search rules
 
-wide-byte-requires : tie.Need-wide-byte-requires invariant_loop decreases_loop
+wide-byte-requires : tie.Need-wide_byte-requires invariant_loop decreases_loop
 wide-byte-requires c κs = search rules
 
-put-bits-requires : tie.Need-put-bits-requires invariant_loop decreases_loop
+put-bits-requires : tie.Need-put_bits-n-requires invariant_loop decreases_loop
 put-bits-requires c κs = search rules
 
-add-i : tie.Need-overflow-add-i invariant_loop decreases_loop
+add-i : tie.Need-overflow_add-i invariant_loop decreases_loop
 add-i c = search rules
 
-loop-less : tie.Need-loop-smaller invariant_loop decreases_loop
+loop-less : tie.Need-loop-i-smaller invariant_loop decreases_loop
 loop-less c = search rules
 
-loop-again : tie.Need-loop-preserved invariant_loop decreases_loop
+loop-again : tie.Need-loop-i-preserved invariant_loop decreases_loop
 loop-again c = search rules
 
-same-length-2 : tie.Need-same-length-2 invariant_loop decreases_loop
+same-length-2 : tie.Need-shape_of-out invariant_loop decreases_loop
 same-length-2 c = search rules
 
-returns-2 : tie.Need-returns-2 invariant_loop decreases_loop
+returns-2 : tie.Need-returns invariant_loop decreases_loop
 returns-2 c = search rules
 
 pub put_hex_spec : {M : Type 1} → statement M

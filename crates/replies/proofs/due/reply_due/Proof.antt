@@ -4,66 +4,66 @@ use Rattle.outline.specs.Replies.{reply_due}
 use Rattle.replies.proofs.due.reply_due.Statement.{statement}
 use Rattle.replies.proofs.due.reply_due.Tie as tie
 
-enum-known-c : tie.Need-enum-known-c
+enum-known-c : tie.Need-enum_known-c
 enum-known-c c = search rules
 
-word-reply-requires : tie.Need-word-reply-requires
+word-reply-requires : tie.Need-word_reply-requires
 word-reply-requires c κs = search rules
 
-enum_told : tie.Need-enum-told
+enum_told : tie.Need-enum_told-1
 enum_told c = search rules
 
-request-reply-requires : tie.Need-request-reply-requires
+request-reply-requires : tie.Need-request_reply-requires
 request-reply-requires c κs = search rules
 
-enum-told-2 : tie.Need-enum-told-2
+enum-told-2 : tie.Need-enum_told-in-NoLine
 enum-told-2 c = search rules
 
-enum-told-3 : tie.Need-enum-told-3
+enum-told-3 : tie.Need-enum_told-in-LongLine
 enum-told-3 c = search rules
 
-enum-told-4 : tie.Need-enum-told-4
+enum-told-4 : tie.Need-enum_told-in-OtherAddress
 enum-told-4 c = search rules
 
-enum-told-5 : tie.Need-enum-told-5
+enum-told-5 : tie.Need-enum_told-in-Malformed
 enum-told-5 c = search rules
 
-told-number-requires : tie.Need-told-number-requires
+told-number-requires : tie.Need-told_number-requires
 told-number-requires c κs = search rules
 
-enum-told-6 : tie.Need-enum-told-6
+enum-told-6 : tie.Need-enum_told-in-Unknown
 enum-told-6 c = search rules
 
-told-number-requires-2 : tie.Need-told-number-requires-2
+told-number-requires-2 : tie.Need-told_number-requires-in-Unknown
 told-number-requires-2 c κs = search rules
 
-returns : tie.Need-returns
+returns : tie.Need-returns-in-Do
 unfolding reply_due
-returns c = simp (c.word-reply.ensures, c.before.before.c.given.1)
+returns c = simp (c.word_reply.ensures, c.before.before.c-1.given.1)
 
-returns-2 : tie.Need-returns-2
+returns-2 : tie.Need-returns-in-Set
 unfolding reply_due
-returns-2 c = simp (c.request-reply.ensures, c.before.enum_told.given.1)
+returns-2 c = simp (c.request_reply.ensures, c.before.enum_told-1.given.1)
 
-returns-3 : tie.Need-returns-3
+returns-3 : tie.Need-returns-in-NoLine
 unfolding reply_due
-returns-3 c = simp c.enum-told2.given.1
+returns-3 c = simp c.enum_told-in-NoLine-1.given.1
 
-returns-4 : tie.Need-returns-4
+returns-4 : tie.Need-returns-in-LongLine
 unfolding reply_due
-returns-4 c = simp c.enum-told3.given.1
+returns-4 c = simp c.enum_told-in-LongLine-1.given.1
 
-returns-5 : tie.Need-returns-5
+returns-5 : tie.Need-returns-in-OtherAddress
 unfolding reply_due
-returns-5 c = simp c.enum-told4.given.1
+returns-5 c = simp c.enum_told-in-OtherAddress-1.given.1
 
-returns-6 : tie.Need-returns-6
+returns-6 : tie.Need-returns-in-Malformed
 unfolding reply_due
-returns-6 c = simp (c.told_number_lem.ensures, c.before.enum-told5.given.1)
+returns-6 c = simp (c.told_number_lem.ensures, c.before.enum_told-in-Malformed-1.given.1)
 
-returns-7 : tie.Need-returns-7
+returns-7 : tie.Need-returns-in-Unknown
 unfolding reply_due
-returns-7 c = simp (c.told-number2.ensures, c.before.enum-told6.given.1)
+returns-7 c = simp (c.told_number-in-Unknown.ensures, c.before.enum_told-in-Unknown-1.given.1)
 
 pub reply_due_spec : {M : Type 1} → statement M
 reply_due_spec =

@@ -5,20 +5,20 @@ use borrow.Author.Rules.{rules}
 use Rattle.replies.proofs.put.put_letters.Statement.{statement}
 use Rattle.replies.proofs.put.put_letters.Tie as tie
 
-cast-put-pair : tie.Need-overflow-cast-put-pair
+cast-put-pair : tie.Need-overflow_cast-letters
 cast-put-pair c = search rules
 
-cast-put-pair-2 : tie.Need-overflow-cast-put-pair-2
+cast-put-pair-2 : tie.Need-overflow_cast-letters-2
 cast-put-pair-2 c = search rules
 
-put-pair-requires : tie.Need-put-pair-requires
+put-pair-requires : tie.Need-put_pair-requires
 put-pair-requires c κs = search rules
 
-same_length : tie.Need-same-length
+same_length : tie.Need-shape_of-buffer
 same_length c = search rules
 
 returns : tie.Need-returns
-returns c = letters (omega arith) c.before.before.put-pair.ensures
+returns c = letters (omega arith) c.before.before.put_pair.ensures
 
 pub put_letters_spec : {M : Type 1} → statement M
 put_letters_spec =

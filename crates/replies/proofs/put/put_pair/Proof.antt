@@ -7,19 +7,19 @@ use borrow.Author.Rules.{rules}
 use Rattle.replies.proofs.put.put_pair.Statement.{statement}
 use Rattle.replies.proofs.put.put_pair.Tie as tie
 
-slice-write-buffer : tie.Need-slice-write-buffer
+slice-write-buffer : tie.Need-bounds-buffer-at
 slice-write-buffer c = search rules
 
-add-buffer : tie.Need-overflow-add-buffer
+add-buffer : tie.Need-overflow_add-buffer
 add-buffer c = search rules
 
-slice-write-buffer-2 : tie.Need-slice-write-buffer-2
+slice-write-buffer-2 : tie.Need-bounds-buffer-at-2
 slice-write-buffer-2 c = simp length-set (omega arith)
 
-add-result : tie.Need-overflow-add-result
+add-result : tie.Need-overflow_add-result
 add-result c = search rules
 
-same_length : tie.Need-same-length
+same_length : tie.Need-shape_of-buffer
 same_length c = search rules
 
 returns : tie.Need-returns

@@ -15,32 +15,32 @@ invariant_loop buffer₀ at width k₀ buffer k = (length buffer ≡ length buff
 abbrev decreases_loop : tie.decreases_loop
 decreases_loop buffer₀ at width k₀ buffer k = k
 
-loop-holds : tie.Need-loop-init invariant_loop decreases_loop
+loop-holds : tie.Need-loop-k-init invariant_loop decreases_loop
 loop-holds c = (refl, le_refl _, refl)
 
-sub-k : tie.Need-overflow-sub-k invariant_loop decreases_loop
+sub-k : tie.Need-overflow_sub-k invariant_loop decreases_loop
 sub-k c = omega arith
 
-add-buffer : tie.Need-overflow-add-buffer invariant_loop decreases_loop
+add-buffer : tie.Need-overflow_add-buffer invariant_loop decreases_loop
 add-buffer c = omega arith
 
-slice-write-buffer : tie.Need-slice-write-buffer invariant_loop decreases_loop
+slice-write-buffer : tie.Need-bounds-buffer-at invariant_loop decreases_loop
 slice-write-buffer c = omega arith
 
-loop-less : tie.Need-loop-smaller invariant_loop decreases_loop
+loop-less : tie.Need-loop-k-smaller invariant_loop decreases_loop
 loop-less c = omega arith
 
-loop-again : tie.Need-loop-preserved invariant_loop decreases_loop
-loop-again c = (simp length-set c.before.loop.invariant.0, omega arith, space_down _ _ _ _ c.loop-test.true ∙ c.before.loop.invariant.2)
+loop-again : tie.Need-loop-k-preserved invariant_loop decreases_loop
+loop-again c = (simp length-set c.before.loop-k.invariant.0, omega arith, space_down _ _ _ _ c.loop-k-test.true ∙ c.before.loop-k.invariant.2)
 
-add-result : tie.Need-overflow-add-result invariant_loop decreases_loop
+add-result : tie.Need-overflow_add-result invariant_loop decreases_loop
 add-result c = omega arith
 
-same_length : tie.Need-same-length invariant_loop decreases_loop
-same_length c = c.before.loop.invariant.0
+same_length : tie.Need-shape_of-buffer invariant_loop decreases_loop
+same_length c = c.before.loop-k.invariant.0
 
 returns : tie.Need-returns invariant_loop decreases_loop
-returns c = record { stored = done (λ k. replicate k 32) _ _ _ _ refl c.loop-test.false c.before.loop.invariant.2; behind = refl; long = length-replicate _ _ }
+returns c = record { stored = done (λ k. replicate k 32) _ _ _ _ refl c.loop-k-test.false c.before.loop-k.invariant.2; behind = refl; long = length-replicate _ _ }
 
 pub put_spaces_spec : {M : Type 1} → statement M
 put_spaces_spec =

@@ -10,21 +10,21 @@ use Rattle.outline.specs.Replies.{shown_of}
 use Rattle.replies.proofs.shown.shown_of.Statement.{statement}
 use Rattle.replies.proofs.shown.shown_of.Tie as tie
 
-is-fit-requires : tie.Need-is-fit-requires
+is-fit-requires : tie.Need-is_fit-fit-requires
 is-fit-requires c κs = search rules
 
-shown-weight-requires : tie.Need-shown-weight-requires
+shown-weight-requires : tie.Need-shown_weight-shown-requires
 shown-weight-requires c κs = search rules
 
-shows-net-requires : tie.Need-shows-net-requires
+shows-net-requires : tie.Need-shows_net-requires
 shows-net-requires c κs = search rules
 
-is-minus-requires : tie.Need-is-minus-requires
+is-minus-requires : tie.Need-is_minus-requires
 is-minus-requires c κs = search rules
 
-cast-magnitude : tie.Need-overflow-cast-magnitude
+cast-magnitude : tie.Need-overflow_cast-shown
 cast-magnitude c =
-    let d = c.before.before.shown-weight in
+    let d = c.before.before.shown_weight-shown in
     cast_need (got {w = w32} d.result d.type-inv) (wider (sfits_of d.type-inv))
 
 magnitude-requires : tie.Need-magnitude-requires
@@ -35,14 +35,14 @@ unfolding shown_of
 returns c =
     let minus = c.before in
     let d = minus.before.before in
-    let shown = got {w = w32} d.shown-weight.result d.shown-weight.type-inv in
+    let shown = got {w = w32} d.shown_weight-shown.result d.shown_weight-shown.type-inv in
     simp (
       c.magnitude.ensures,
-      to_z-of_z (subst (SFits w64) d.shown-weight.ensures (wider (sfits_of d.shown-weight.type-inv))),
-      minus.is-minus.ensures,
-      (be shown d.shown-weight.ensures).read,
-      minus.before.shows-net.ensures,
-      d.before.is-fit.ensures,
+      to_z-of_z (subst (SFits w64) d.shown_weight-shown.ensures (wider (sfits_of d.shown_weight-shown.type-inv))),
+      minus.is_minus.ensures,
+      (be shown d.shown_weight-shown.ensures).read,
+      minus.before.shows_net.ensures,
+      d.before.is_fit-fit.ensures,
     )
 
 pub shown_of_spec : {M : Type 1} → statement M

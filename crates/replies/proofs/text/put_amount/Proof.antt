@@ -3,23 +3,23 @@ use borrow.Author.Rules.{rules}
 use Rattle.replies.proofs.text.put_amount.Statement.{statement}
 use Rattle.replies.proofs.text.put_amount.Tie as tie
 
-put-digits-requires : tie.Need-put-digits-requires
+put-digits-requires : tie.Need-put_digits-requires
 put-digits-requires c κs = search rules
 
-put-spaces-requires : tie.Need-put-spaces-requires
+put-spaces-requires : tie.Need-put_spaces-requires
 put-spaces-requires c κs = search rules
 
-same_length : tie.Need-same-length
+same_length : tie.Need-shape_of-buffer-then-w
 same_length c = search rules
 
-returns : tie.Need-returns
-returns c = simp c.before.before.before.before.if1.true c.before.before.put-digits.ensures
+returns : tie.Need-returns-then-w
+returns c = simp c.before.before.before.before.if-w.true c.before.before.put_digits.ensures
 
-same-length-2 : tie.Need-same-length-2
+same-length-2 : tie.Need-shape_of-buffer-else-w
 same-length-2 c = search rules
 
-returns-2 : tie.Need-returns-2
-returns-2 c = simp c.before.before.before.before.if1.false c.before.before.put-spaces.ensures
+returns-2 : tie.Need-returns-else-w
+returns-2 c = simp c.before.before.before.before.if-w.false c.before.before.put_spaces.ensures
 
 pub put_amount_spec : {M : Type 1} → statement M
 put_amount_spec =

@@ -5,28 +5,28 @@ use borrow.Author.Rules.{rules}
 use Rattle.replies.proofs.text.put_points.Statement.{statement}
 use Rattle.replies.proofs.text.put_points.Tie as tie
 
-put-setpoint-requires : tie.Need-put-setpoint-requires
+put-setpoint-requires : tie.Need-put_setpoint-n-requires
 put-setpoint-requires c κs = search rules
 
-put-setpoint-requires-2 : tie.Need-put-setpoint-requires-2
+put-setpoint-requires-2 : tie.Need-put_setpoint-n-requires-2
 put-setpoint-requires-2 c κs = search rules
 
-put-setpoint-requires-3 : tie.Need-put-setpoint-requires-3
+put-setpoint-requires-3 : tie.Need-put_setpoint-n-requires-3
 put-setpoint-requires-3 c κs = search rules
 
-put-setpoint-requires-4 : tie.Need-put-setpoint-requires-4
+put-setpoint-requires-4 : tie.Need-put_setpoint-n-requires-4
 put-setpoint-requires-4 c κs = search rules
 
-put-setpoint-requires-5 : tie.Need-put-setpoint-requires-5
+put-setpoint-requires-5 : tie.Need-put_setpoint-n-requires-5
 put-setpoint-requires-5 c κs = search rules
 
-put-setpoint-requires-6 : tie.Need-put-setpoint-requires-6
+put-setpoint-requires-6 : tie.Need-put_setpoint-n-requires-6
 put-setpoint-requires-6 c κs = search rules
 
-put-setpoint-requires-7 : tie.Need-put-setpoint-requires-7
+put-setpoint-requires-7 : tie.Need-put_setpoint-requires
 put-setpoint-requires-7 c κs = search rules
 
-same_length : tie.Need-same-length
+same_length : tie.Need-shape_of-buffer
 same_length c = search rules
 
 returns : tie.Need-returns
@@ -39,7 +39,7 @@ returns c =
     let preliminary = optional.before.before.before.before in
     let fall = preliminary.before.before.before.before in
     let target = fall.before.before.before.before in
-    more (more (more (more (more (more target.put-setpoint.ensures fall.put-setpoint2.ensures) preliminary.put-setpoint3.ensures) optional.put-setpoint4.ensures) over.put-setpoint5.ensures) under.put-setpoint6.ensures) near.put-setpoint7.ensures
+    more (more (more (more (more (more target.put_setpoint-n.ensures fall.put_setpoint-n-2.ensures) preliminary.put_setpoint-n-3.ensures) optional.put_setpoint-n-4.ensures) over.put_setpoint-n-5.ensures) under.put_setpoint-n-6.ensures) near.put_setpoint.ensures
 
 pub put_points_spec : {M : Type 1} → statement M
 put_points_spec =

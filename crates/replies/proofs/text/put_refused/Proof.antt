@@ -5,18 +5,18 @@ use borrow.Author.Rules.{rules}
 use Rattle.replies.proofs.text.put_refused.Statement.{statement}
 use Rattle.replies.proofs.text.put_refused.Tie as tie
 
-put-letters-requires : tie.Need-put-letters-requires
+put-letters-requires : tie.Need-put_letters-n-requires
 put-letters-requires c κs = search rules
 
-put-digits-requires : tie.Need-put-digits-requires
+put-digits-requires : tie.Need-put_digits-requires
 put-digits-requires c κs = search rules
 
-same_length : tie.Need-same-length
+same_length : tie.Need-shape_of-buffer
 same_length c = search rules
 
 returns : tie.Need-returns
 unfolding refused_text
-returns c = more c.before.before.before.before.before.before.put-letters.ensures c.before.before.put-digits.ensures
+returns c = more c.before.before.before.before.before.before.put_letters-n.ensures c.before.before.put_digits.ensures
 
 pub put_refused_spec : {M : Type 1} → statement M
 put_refused_spec =

@@ -8,34 +8,34 @@ use borrow.Author.Rules.{rules}
 use Rattle.replies.proofs.text.put_weight.Statement.{statement}
 use Rattle.replies.proofs.text.put_weight.Tie as tie
 
-status-letters-requires : tie.Need-status-letters-requires
+status-letters-requires : tie.Need-status_letters-requires
 status-letters-requires c κs = search rules
 
-put-letters-requires : tie.Need-put-letters-requires
+put-letters-requires : tie.Need-put_letters-n-requires
 put-letters-requires c κs = search rules
 
-put-byte-requires : tie.Need-put-byte-requires
+put-byte-requires : tie.Need-put_byte-n-requires
 put-byte-requires c κs = search rules
 
-display-letters-requires : tie.Need-display-letters-requires
+display-letters-requires : tie.Need-display_letters-requires
 display-letters-requires c κs = search rules
 
-put-letters-requires-2 : tie.Need-put-letters-requires-2
+put-letters-requires-2 : tie.Need-put_letters-n-requires-2
 put-letters-requires-2 c κs = search rules
 
-sign-byte-requires : tie.Need-sign-byte-requires
+sign-byte-requires : tie.Need-sign_byte-requires
 sign-byte-requires c κs = search rules
 
-put-pair-requires : tie.Need-put-pair-requires
+put-pair-requires : tie.Need-put_pair-n-requires
 put-pair-requires c κs = search rules
 
-put-amount-requires : tie.Need-put-amount-requires
+put-amount-requires : tie.Need-put_amount-n-requires
 put-amount-requires c κs = search rules
 
-put-letters-requires-3 : tie.Need-put-letters-requires-3
+put-letters-requires-3 : tie.Need-put_letters-requires
 put-letters-requires-3 c κs = search rules
 
-same_length : tie.Need-same-length
+same_length : tie.Need-shape_of-buffer
 same_length c = search rules
 
 returns : tie.Need-returns
@@ -47,10 +47,10 @@ returns c =
     let display = sign.before.before.before.before.before in
     let comma₁ = display.before.before.before.before.before in
     let status = comma₁.before.before.before.before in
-    let st = same (ap letters_text status.before.status-letters.ensures) status.put-letters.ensures in
-    let gs = same (ap letters_text display.before.display-letters.ensures) display.put-letters2.ensures in
-    let plus = same (ap (λ (s : ℕ). comma ∷ s ∷ []) sign.before.sign-byte.ensures) sign.put-pair.ensures in
-    more (more (more (more (more st comma₁.put_byte.ensures) gs) plus) amount.put-amount.ensures) unit.put-letters3.ensures
+    let st = same (ap letters_text status.before.status_letters.ensures) status.put_letters-n.ensures in
+    let gs = same (ap letters_text display.before.display_letters.ensures) display.put_letters-n-2.ensures in
+    let plus = same (ap (λ (s : ℕ). comma ∷ s ∷ []) sign.before.sign_byte.ensures) sign.put_pair-n.ensures in
+    more (more (more (more (more st comma₁.put_byte-n.ensures) gs) plus) amount.put_amount-n.ensures) unit.put_letters.ensures
 
 pub put_weight_spec : {M : Type 1} → statement M
 put_weight_spec =

@@ -2,11 +2,11 @@
 use Rattle.replies.proofs.text.sign_byte.Statement.{statement}
 use Rattle.replies.proofs.text.sign_byte.Tie as tie
 
-returns : tie.Need-returns
-returns c = simp c.if1.true
+returns : tie.Need-returns-then-w
+returns c = simp c.if-w.true
 
-returns-2 : tie.Need-returns-2
-returns-2 c = simp c.if1.false
+returns-2 : tie.Need-returns-else-w
+returns-2 c = simp c.if-w.false
 
 pub sign_byte_spec : {M : Type 1} → statement M
 sign_byte_spec = tie.close (tie.spec returns returns-2)

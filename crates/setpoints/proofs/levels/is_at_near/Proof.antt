@@ -8,10 +8,10 @@ use Rattle.whole.specs.Machine.{machine}
 use Rattle.setpoints.proofs.levels.is_at_near.Statement.{statement}
 use Rattle.setpoints.proofs.levels.is_at_near.Tie as tie
 
-cast-result : tie.Need-overflow-cast-result
+cast-result : tie.Need-overflow_cast-result
 cast-result c = search machine
 
-cast-result-2 : tie.Need-overflow-cast-result-2
+cast-result-2 : tie.Need-overflow_cast-result-2
 cast-result-2 c = search rules
 
 returns : tie.Need-returns

@@ -14,37 +14,37 @@ use Rattle.setpoints.proofs.levels.is_full.Tie as tie
 gross : (s : tie.Start) → SFits w32 s.args.x.gross
 gross s = search sfits_of
 
-is-fit-requires : tie.Need-is-fit-requires
+is-fit-requires : tie.Need-is_fit-requires
 is-fit-requires c κs = search rules
 
-returns : tie.Need-returns
+returns : tie.Need-returns-then-not-is_fit
 unfolding full_of
-returns c = simp (not-true c.before.is-fit.result c.if1.true, ← c.before.is-fit.ensures)
+returns c = simp (not-true c.before.is_fit.result c.if-not-is_fit.true, ← c.before.is_fit.ensures)
 
-enum_told : tie.Need-enum-told
+enum_told : tie.Need-enum_told-1
 enum_told c = search rules
 
-enum-told-2 : tie.Need-enum-told-2
+enum-told-2 : tie.Need-enum_told-in-Loss
 enum-told-2 c = search rules
 
-cast-below : tie.Need-overflow-cast-below
+cast-below : tie.Need-overflow_cast-p
 cast-below c = search rules
 
-cast-below-2 : tie.Need-overflow-cast-below-2
+cast-below-2 : tie.Need-overflow_cast-x
 cast-below-2 c = search machine
 
 below-requires : tie.Need-below-requires
 below-requires c κs = search rules
 
-returns-2 : tie.Need-returns-2
+returns-2 : tie.Need-returns-in-Normal
 unfolding full_of
-returns-2 c = simp (c.enum_told.given.1, not-false c.before.before.before.is-fit.result c.before.before.if1.false, ← c.before.before.before.is-fit.ensures)
+returns-2 c = simp (c.enum_told-1.given.1, not-false c.before.before.before.is_fit.result c.before.before.if-not-is_fit.false, ← c.before.before.before.is_fit.ensures)
 
-returns-3 : tie.Need-returns-3
+returns-3 : tie.Need-returns-in-Loss
 unfolding full_of
 returns-3 c =
     simp
-    (c.below.ensures, c.before.before.before.before.enum-told2.given.1, not-false c.before.before.before.before.before.before.before.is-fit.result c.before.before.before.before.before.before.if1.false, ← c.before.before.before.before.before.before.before.is-fit.ensures)
+    (c.below.ensures, c.before.before.before.before.enum_told-in-Loss-1.given.1, not-false c.before.before.before.before.before.before.before.is_fit.result c.before.before.before.before.before.before.if-not-is_fit.false, ← c.before.before.before.before.before.before.before.is_fit.ensures)
     (λ i. lt_z ((nat {w = w64} {n = c.before.before.before.before.before.before.before.before.args.p.optional} (omega arith)).read i) ((widened (gross c.before.before.before.before.before.before.before.before)).read i))
 
 pub is_full_spec : {M : Type 1} → statement M

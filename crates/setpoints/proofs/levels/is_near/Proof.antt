@@ -12,24 +12,24 @@ use Rattle.setpoints.proofs.levels.is_near.Tie as tie
 gross : (s : tie.Start) → SFits w32 s.args.x.gross
 gross s = search sfits_of
 
-is-fit-requires : tie.Need-is-fit-requires
+is-fit-requires : tie.Need-is_fit-requires
 is-fit-requires c κs = search rules
 
-returns : tie.Need-returns
+returns : tie.Need-returns-then-not-is_fit
 unfolding near_of
-returns c = simp (not-true c.before.is-fit.result c.if1.true, ← c.before.is-fit.ensures)
+returns c = simp (not-true c.before.is_fit.result c.if-not-is_fit.true, ← c.before.is_fit.ensures)
 
-is-at-near-requires : tie.Need-is-at-near-requires
+is-at-near-requires : tie.Need-is_at_near-requires
 is-at-near-requires c κs = search rules
 
-returns-2 : tie.Need-returns-2
+returns-2 : tie.Need-returns
 unfolding near_of
 returns-2 c =
     simp (
-      c.is-at-near.ensures,
+      c.is_at_near.ensures,
       to_z-of_z (gross c.before.before.before.before),
-      not-false c.before.before.before.is-fit.result c.before.before.if1.false,
-      ← c.before.before.before.is-fit.ensures,
+      not-false c.before.before.before.is_fit.result c.before.before.if-not-is_fit.false,
+      ← c.before.before.before.is_fit.ensures,
     )
 
 pub is_near_spec : {M : Type 1} → statement M

@@ -11,13 +11,13 @@ use Rattle.settings.proofs.ranges.analog_fits.Tie as tie
 held : (s : tie.Start) → Held s.args.g
 held s = search sfits_of
 
-is-from-to-requires : tie.Need-is-from-to-requires
+is-from-to-requires : tie.Need-is_from_to-requires
 is-from-to-requires c κs = search rules
 
-is-within-requires : tie.Need-is-within-requires
+is-within-requires : tie.Need-is_within-requires
 is-within-requires c κs = search rules
 
-is-within-requires-2 : tie.Need-is-within-requires-2
+is-within-requires-2 : tie.Need-is_within-requires-2
 is-within-requires-2 c κs = search rules
 
 returns : tie.Need-returns
@@ -25,9 +25,9 @@ unfolding analog_fits
 returns c =
     let h = held c.before.before.before.before.before.before in
     simp (
-      c.before.before.is-from-to.ensures,
+      c.before.before.is_from_to.ensures,
       c.before.is_Within.ensures,
-      c.is-within2.ensures,
+      c.is_within-2.ensures,
       to_z-of_z h.board,
       to_z-of_z h.low,
       to_z-of_z h.high,

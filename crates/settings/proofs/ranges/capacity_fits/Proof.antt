@@ -10,7 +10,7 @@ use Rattle.settings.proofs.ranges.capacity_fits.Tie as tie
 held : (s : tie.Start) → Held s.args.g
 held s = search sfits_of
 
-is-from-to-requires : tie.Need-is-from-to-requires
+is-from-to-requires : tie.Need-is_from_to-requires
 is-from-to-requires c κs = search rules
 
 returns : tie.Need-returns
@@ -18,7 +18,7 @@ unfolding capacity_fits
 returns c =
     let h = held c.before.before.before.before.before.before in
     simp (
-      c.before.before.before.before.is-from-to.ensures,
+      c.before.before.before.before.is_from_to.ensures,
       to_z-of_z h.capacity,
       to_z-of_z h.weight,
     )

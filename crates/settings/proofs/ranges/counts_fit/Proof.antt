@@ -19,16 +19,16 @@ held s = search sfits_of
 times : (s : tie.Start) (k : ℕ) → k ≤ 10 → SFits w64 (s.args.g.weight *ℤ pos k)
 times s k l = mul_fits w64 (2 ^ 31) 10 s.args.g.weight k (abs_fits w32 (held s).weight) l tt
 
-cast-least : tie.Need-cast-least
+cast-least : tie.Need-overflow_cast-least
 cast-least c = let f = (held c.before.before).weight in cast_need (arg f) (wider f)
 
-mul-least : tie.Need-mul-least
+mul-least : tie.Need-overflow_mul-least
 mul-least c = let s = c.before.before in simp (widened (held s).weight).read (times s _ (omega arith))
 
-is-within-requires : tie.Need-is-within-requires
+is-within-requires : tie.Need-is_within-requires
 is-within-requires c κs = search rules
 
-is-within-requires-2 : tie.Need-is-within-requires-2
+is-within-requires-2 : tie.Need-is_within-requires-2
 is-within-requires-2 c κs = search rules
 
 difference-requires : tie.Need-difference-requires
@@ -41,7 +41,7 @@ returns c =
     let h = held s in
     simp (
       c.before.before.before.before.before.is_Within.ensures,
-      c.before.before.before.is-within2.ensures,
+      c.before.before.before.is_within-2.ensures,
       (widened h.weight).read,
       to_z-of_z (times s 10 (omega arith)),
       (be (got {w = w64} c.difference.result c.difference.ok) c.difference.ensures).read,

@@ -10,19 +10,19 @@ use Rattle.settings.proofs.ranges.delays_fit.Tie as tie
 held : (s : tie.Start) → Held s.args.g
 held s = search sfits_of
 
-is-from-to-requires : tie.Need-is-from-to-requires
+is-from-to-requires : tie.Need-is_from_to-requires
 is-from-to-requires c κs = search rules
 
-is-from-to-requires-2 : tie.Need-is-from-to-requires-2
+is-from-to-requires-2 : tie.Need-is_from_to-requires-2
 is-from-to-requires-2 c κs = search rules
 
-is-from-to-requires-3 : tie.Need-is-from-to-requires-3
+is-from-to-requires-3 : tie.Need-is_from_to-requires-3
 is-from-to-requires-3 c κs = search rules
 
-is-from-to-requires-4 : tie.Need-is-from-to-requires-4
+is-from-to-requires-4 : tie.Need-is_from_to-requires-4
 is-from-to-requires-4 c κs = search rules
 
-is-from-to-requires-5 : tie.Need-is-from-to-requires-5
+is-from-to-requires-5 : tie.Need-is_from_to-requires-5
 is-from-to-requires-5 c κs = search rules
 
 returns : tie.Need-returns
@@ -30,11 +30,11 @@ unfolding delays_fit
 returns c =
     let h = held c.before.before.before.before.before.before.before.before.before.before in
     simp (
-      c.before.before.before.before.before.before.before.before.is-from-to.ensures,
-      c.before.before.before.before.before.before.is-from-to2.ensures,
-      c.before.before.before.before.is-from-to3.ensures,
-      c.before.before.is-from-to4.ensures,
-      c.is-from-to5.ensures,
+      c.before.before.before.before.before.before.before.before.is_from_to.ensures,
+      c.before.before.before.before.before.before.is_from_to-2.ensures,
+      c.before.before.before.before.is_from_to-3.ensures,
+      c.before.before.is_from_to-4.ensures,
+      c.is_from_to-5.ensures,
       to_z-of_z h.start,
       to_z-of_z h.large,
       to_z-of_z h.medium,

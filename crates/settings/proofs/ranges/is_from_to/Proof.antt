@@ -7,13 +7,13 @@ use Rattle.whole.specs.Bits.{nat, widened}
 use Rattle.settings.proofs.ranges.is_from_to.Statement.{statement}
 use Rattle.settings.proofs.ranges.is_from_to.Tie as tie
 
-cast-w : tie.Need-cast-w
+cast-w : tie.Need-overflow_cast-w
 cast-w c = search machine
 
-cast-result : tie.Need-cast-result
+cast-result : tie.Need-overflow_cast-result
 cast-result c = search rules
 
-cast-result-2 : tie.Need-cast-result-2
+cast-result-2 : tie.Need-overflow_cast-result-2
 cast-result-2 c = search rules
 
 returns : tie.Need-returns

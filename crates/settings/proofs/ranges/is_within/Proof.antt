@@ -5,7 +5,7 @@ use Rattle.whole.specs.Bits.{widened}
 use Rattle.settings.proofs.ranges.is_within.Statement.{statement}
 use Rattle.settings.proofs.ranges.is_within.Tie as tie
 
-cast-magnitude : tie.Need-cast-magnitude
+cast-magnitude : tie.Need-overflow_cast-x
 cast-magnitude c = search machine
 
 magnitude-requires : tie.Need-magnitude-requires

@@ -10,10 +10,10 @@ use Rattle.settings.proofs.ranges.stability_fits.Tie as tie
 held : (s : tie.Start) → Held s.args.g
 held s = search sfits_of
 
-is-from-to-requires : tie.Need-is-from-to-requires
+is-from-to-requires : tie.Need-is_from_to-requires
 is-from-to-requires c κs = search rules
 
-is-from-to-requires-2 : tie.Need-is-from-to-requires-2
+is-from-to-requires-2 : tie.Need-is_from_to-requires-2
 is-from-to-requires-2 c κs = search rules
 
 returns : tie.Need-returns
@@ -21,8 +21,8 @@ unfolding stability_fits
 returns c =
     let h = held c.before.before.before.before in
     simp (
-      c.before.before.is-from-to.ensures,
-      c.is-from-to2.ensures,
+      c.before.before.is_from_to.ensures,
+      c.is_from_to-2.ensures,
       to_z-of_z h.stabletime,
       to_z-of_z h.stablewidth,
     )

@@ -10,13 +10,13 @@ use Rattle.settings.proofs.ranges.tracking_fits.Tie as tie
 held : (s : tie.Start) → Held s.args.g
 held s = search sfits_of
 
-is-from-to-requires : tie.Need-is-from-to-requires
+is-from-to-requires : tie.Need-is_from_to-requires
 is-from-to-requires c κs = search rules
 
-is-from-to-requires-2 : tie.Need-is-from-to-requires-2
+is-from-to-requires-2 : tie.Need-is_from_to-requires-2
 is-from-to-requires-2 c κs = search rules
 
-is-from-to-requires-3 : tie.Need-is-from-to-requires-3
+is-from-to-requires-3 : tie.Need-is_from_to-requires-3
 is-from-to-requires-3 c κs = search rules
 
 returns : tie.Need-returns
@@ -24,9 +24,9 @@ unfolding tracking_fits
 returns c =
     let h = held c.before.before.before.before.before.before in
     simp (
-      c.before.before.before.before.is-from-to.ensures,
-      c.before.before.is-from-to2.ensures,
-      c.is-from-to3.ensures,
+      c.before.before.before.before.is_from_to.ensures,
+      c.before.before.is_from_to-2.ensures,
+      c.is_from_to-3.ensures,
       to_z-of_z h.tracktime,
       to_z-of_z h.trackwidth,
       to_z-of_z h.allowance,

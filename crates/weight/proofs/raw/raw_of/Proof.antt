@@ -17,45 +17,45 @@ use Rattle.weight.proofs.raw.raw_of.Tie as tie
 abbrev raw_at : tie.Start → ℤ
 raw_at s = tenths_of s.args.cal s.args.count
 
-raw : (c : tie.After-tenths) → Read w64 (of_z w64 c.tenths.result) (raw_at c.before.before.before)
-raw c = be (got c.tenths.result c.tenths.type-inv) (simp (c.tenths.ensures, to_z-of_z c.before.before.before.ranges.count))
+raw : (c : tie.After-tenths-raw) → Read w64 (of_z w64 c.tenths-raw.result) (raw_at c.before.before.before)
+raw c = be (got c.tenths-raw.result c.tenths-raw.type-inv) (simp (c.tenths-raw.ensures, to_z-of_z c.before.before.before.ranges.count))
 
-good : (c : tie.After-is-good) → c.is-good.result ≡ good_count c.before.args.count
-good c = c.is-good.ensures ∙ ap good_count (to_z-of_z c.before.ranges.count)
+good : (c : tie.After-is_good) → c.is_good.result ≡ good_count c.before.args.count
+good c = c.is_good.ensures ∙ ap good_count (to_z-of_z c.before.ranges.count)
 
 size : (c : tie.After-magnitude) → c.magnitude.result ≡ nat_abs (raw_at c.before.before.before.before)
 size c = simp (c.magnitude.ensures, (raw c.before).read)
 
-fits : (c : tie.Then2) → SFits w32 (raw_at c.before.before.before.before.before)
+fits : (c : tie.Then-magnitude-le-RAW_LIMIT) → SFits w32 (raw_at c.before.before.before.before.before)
 fits c = fits_abs w32 (omega (arith, size c.before))
 
-is-good-requires : tie.Need-is-good-requires
+is-good-requires : tie.Need-is_good-requires
 is-good-requires c κs = search rules
 
-returns : tie.Need-returns
+returns : tie.Need-returns-then-not-is_good
 unfolding raw_of
-returns c = simp (sym (good c.before) ∙ not-true _ c.if1.true)
+returns c = simp (sym (good c.before) ∙ not-true _ c.if-not-is_good.true)
 
-tenths-requires : tie.Need-tenths-requires
+tenths-requires : tie.Need-tenths-raw-requires
 tenths-requires c κs = search rules
 
 magnitude-requires : tie.Need-magnitude-requires
 magnitude-requires c κs = search rules
 
-cast-t8 : tie.Need-overflow-cast-t8
+cast-t8 : tie.Need-overflow_cast-result
 cast-t8 c = cast_need (raw c.before.before) (fits c)
 
-returns-2 : tie.Need-returns-2
+returns-2 : tie.Need-returns-then-magnitude-le-RAW_LIMIT
 unfolding raw_of
 returns-2 c =
     let e = c.before.before.before in
-    simp ((cast (raw c.before.before) (fits c)).read, sym (good e.before) ∙ not-false _ e.if1.false, inside _ (raw_at e.before.before) (size c.before) c.if2.true)
+    simp ((cast (raw c.before.before) (fits c)).read, sym (good e.before) ∙ not-false _ e.if-not-is_good.false, inside _ (raw_at e.before.before) (size c.before) c.if-magnitude-le-RAW_LIMIT.true)
 
-returns-3 : tie.Need-returns-3
+returns-3 : tie.Need-returns-else-magnitude-le-RAW_LIMIT
 unfolding raw_of
 returns-3 c =
     let e = c.before.before.before in
-    simp (sym (good e.before) ∙ not-false _ e.if1.false, outside _ (raw_at e.before.before) (size c.before) c.if2.false)
+    simp (sym (good e.before) ∙ not-false _ e.if-not-is_good.false, outside _ (raw_at e.before.before) (size c.before) c.if-magnitude-le-RAW_LIMIT.false)
 
 pub raw_of_spec : {M : Type 1} → statement M
 raw_of_spec =

@@ -26,23 +26,23 @@ scaled_fits : (s : tie.Start) → SFits w64 ((s.args.count -ℤ s.args.cal.zero)
 scaled_fits s =
     mul_fits w64 4294967296 655350 (s.args.count -ℤ s.args.cal.zero) (10 * s.args.cal.weight) (diff_abs s.ranges.count (zero_fits s)) (omega arith) tt
 
-from_zero : (c : tie.After-difference) → Read w64 (of_z w64 c.difference.result) (c.before.before.args.count -ℤ c.before.before.args.cal.zero)
+from_zero : (c : tie.After-difference-from_zero) → Read w64 (of_z w64 c.difference-from_zero.result) (c.before.before.args.count -ℤ c.before.before.args.cal.zero)
 from_zero c =
     let s = c.before.before in
-    be (got c.difference.result c.difference.type-inv) (simp (c.difference.ensures, to_z-of_z s.ranges.count, to_z-of_z (zero_fits s)))
+    be (got c.difference-from_zero.result c.difference-from_zero.type-inv) (simp (c.difference-from_zero.ensures, to_z-of_z s.ranges.count, to_z-of_z (zero_fits s)))
 
-difference-requires : tie.Need-difference-requires
+difference-requires : tie.Need-difference-from_zero-requires
 difference-requires c κs = search rules
 
-cast-weight : tie.Need-overflow-cast-weight
+cast-weight : tie.Need-overflow_cast-weight
 cast-weight c = search rules
 
-mul-weight : tie.Need-overflow-mul-weight
+mul-weight : tie.Need-overflow_mul-weight
 mul-weight c =
     let s = c.before.before.before in
     mul_need (nat {n = 10} (omega arith)) (nat {n = s.args.cal.weight} (omega arith)) (weight_fits s)
 
-mul-nearest : tie.Need-overflow-mul-nearest
+mul-nearest : tie.Need-overflow_mul-from_zero
 mul-nearest c =
     let s = c.before.before.before in
     mul_need (from_zero c.before) (weight s) (scaled_fits s)

@@ -8,25 +8,25 @@ use Rattle.outline.specs.Weight.{steadied_of}
 use Rattle.weight.proofs.stability.steadied.Statement.{statement}
 use Rattle.weight.proofs.stability.steadied.Tie as tie
 
-enum_told : tie.Need-enum-told
+enum_told : tie.Need-enum_told-1
 enum_told c = search rules
 
-enum-known-raw : tie.Need-enum-known-raw
+enum-known-raw : tie.Need-enum_known-raw
 enum-known-raw c = search rules
 
-run-after-requires : tie.Need-run-after-requires
+run-after-requires : tie.Need-run_after-requires
 run-after-requires c κs = search rules
 
-returns : tie.Need-returns
+returns : tie.Need-returns-in-Bad
 unfolding steadied_of
-returns c = simp c.enum_told.given.1
+returns c = simp c.enum_told-1.given.1
 
-returns-2 : tie.Need-returns-2
+returns-2 : tie.Need-returns-in-Tenths
 unfolding steadied_of
 returns-2 c =
     let g = c.before.before in
-    let f : SFits w32 g.raw.given.0.0 = search sfits_of in
-    simp (c.run-after.ensures, to_z-of_z g.before.before.ranges.last, to_z-of_z f, g.raw.given.1)
+    let f : SFits w32 g.raw-1.given.0.0 = search sfits_of in
+    simp (c.run_after.ensures, to_z-of_z g.before.before.ranges.last, to_z-of_z f, g.raw-1.given.1)
 
 pub steadied_spec : {M : Type 1} → statement M
 steadied_spec =

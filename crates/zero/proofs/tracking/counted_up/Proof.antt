@@ -61,62 +61,62 @@ moved : (s : tie.Start) → Read w64 (of_z w64 (to_z w64 (of_z w64 (to_z w32 (of
 moved s = add (old s) (arg (fine_fits s)) (sum_fits s)
 
 -- at q
-abbrev start : tie.Else1 → tie.Start
+abbrev start : tie.Else-next-s → tie.Start
 start c = c.before.before.before
 
-full : (c : tie.Else1) → leb (start c).args.s.tracking.time (suc (start c).args.w.counter) ≡ true
+full : (c : tie.Else-next-s) → leb (start c).args.s.tracking.time (suc (start c).args.w.counter) ≡ true
 full c = le-leb (start c).args.s.tracking.time (suc (start c).args.w.counter) (omega arith)
 
-range : (c : tie.After-in-zero-range) → c.in-zero-range.result ≡ in_zero_range (start c.before.before).args.s.range (start c.before.before).args.x.raw
+range : (c : tie.After-in_zero_range) → c.in_zero_range.result ≡ in_zero_range (start c.before.before).args.s.range (start c.before.before).args.x.raw
 range c =
     let s = start c.before.before in
-    c.in-zero-range.ensures ∙ ap (in_zero_range s.args.s.range) (to_z-of_z (raw_fits s))
+    c.in_zero_range.ensures ∙ ap (in_zero_range s.args.s.range) (to_z-of_z (raw_fits s))
 
 -- the place where the raw is in range
-abbrev near : tie.After-magnitude → tie.Else2
+abbrev near : tie.After-magnitude → tie.Else-not-in_zero_range
 near c = c.before.before.before.before.before
 
-abbrev at : tie.After-magnitude → tie.Else1
+abbrev at : tie.After-magnitude → tie.Else-next-s
 at c = (near c).before.before.before
 
 size : (c : tie.After-magnitude) → c.magnitude.result ≡ nat_abs (sum_of (start (at c)))
 size c = c.magnitude.ensures ∙ ap nat_abs (moved (start (at c))).read
 
-small_fits : (c : tie.Then3) → SFits w32 (sum_of (start (at c.before.before)))
+small_fits : (c : tie.Then-magnitude-s) → SFits w32 (sum_of (start (at c.before.before)))
 small_fits c = fits_abs w32 (omega (arith, size c.before.before))
 
-cast-next : tie.Need-overflow-cast-next
+cast-next : tie.Need-overflow_cast-next
 cast-next c = search rules
 
-add-next : tie.Need-overflow-add-next
+add-next : tie.Need-overflow_add-next
 add-next c = search rules
 
-cast-if1 : tie.Need-overflow-cast-if1
+cast-if1 : tie.Need-overflow_cast-s
 cast-if1 c = search rules
 
-cast-w : tie.Need-overflow-cast-w
+cast-w : tie.Need-overflow_cast-w
 cast-w c = search rules
 
-returns : tie.Need-returns
+returns : tie.Need-returns-then-next-s
 returns c =
     let a = c.before.before.before.args in
     counts a.s a.w a.x (lt-leb a.s.tracking.time (suc a.w.counter) (omega arith))
 
-in-zero-range-requires : tie.Need-in-zero-range-requires
+in-zero-range-requires : tie.Need-in_zero_range-requires
 in-zero-range-requires c κs = search rules
 
-returns-2 : tie.Need-returns-2
+returns-2 : tie.Need-returns-then-not-in_zero_range
 returns-2 c =
     let e = c.before.before.before in
     let a = (start e).args in
-    far a.s a.w a.x (full e) (sym (range c.before) ∙ not-true _ c.if2.true)
+    far a.s a.w a.x (full e) (sym (range c.before) ∙ not-true _ c.if-not-in_zero_range.true)
 
-cast-moved : tie.Need-overflow-cast-moved
+cast-moved : tie.Need-overflow_cast-moved
 cast-moved c =
     let s = start c.before.before.before.before.before in
     cast_need (arg (tracked_fits s)) (wider (tracked_fits s))
 
-add-moved : tie.Need-overflow-add-moved
+add-moved : tie.Need-overflow_add-moved
 add-moved c =
     let s = start c.before.before.before.before.before.before.before in
     add_need (old s) (arg (fine_fits s)) (sum_fits s)
@@ -124,32 +124,32 @@ add-moved c =
 magnitude-requires : tie.Need-magnitude-requires
 magnitude-requires c κs = search rules
 
-cast-if3 : tie.Need-overflow-cast-if3
+cast-if3 : tie.Need-overflow_cast-s-2
 cast-if3 c = search rules
 
-cast-w-2 : tie.Need-overflow-cast-w-2
+cast-w-2 : tie.Need-overflow_cast-w-then-magnitude-s
 cast-w-2 c =
     let t = c.before in
     cast_need (moved (start (at t.before.before))) (small_fits t)
 
 in_range : (c : tie.After-magnitude) → in_zero_range (start (at c)).args.s.range (start (at c)).args.x.raw ≡ true
-in_range c = sym (range (near c).before) ∙ not-false _ (near c).if2.false
+in_range c = sym (range (near c).before) ∙ not-false _ (near c).if-not-in_zero_range.false
 
-returns-3 : tie.Need-returns-3
+returns-3 : tie.Need-returns-then-magnitude-s
 returns-3 c =
     let t = c.before in
     let m = t.before.before in
     let s = start (at m) in
     let a = s.args in
     (λ i. record { zero = to_z-of_z (raw_fits s) i; tracked = (cast (moved s) (small_fits t)).read i; counter = 0; tare = a.w.tare })
-    ∙ moves a.s a.w a.x (full (at m)) (in_range m) (inside _ (sum_of s) (size m) t.if3.true)
+    ∙ moves a.s a.w a.x (full (at m)) (in_range m) (inside _ (sum_of s) (size m) t.if-magnitude-s.true)
 
-returns-4 : tie.Need-returns-4
+returns-4 : tie.Need-returns
 returns-4 c =
     let m = c.before.before in
     let s = start (at m) in
     let a = s.args in
-    spent a.s a.w a.x (full (at m)) (in_range m) (outside _ (sum_of s) (size m) c.if3.false)
+    spent a.s a.w a.x (full (at m)) (in_range m) (outside _ (sum_of s) (size m) c.if-magnitude-s.false)
 
 pub counted_up_spec : {M : Type 1} → statement M
 counted_up_spec =

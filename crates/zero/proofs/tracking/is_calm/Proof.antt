@@ -9,40 +9,40 @@ use Rattle.whole.specs.Machine.{sfits_of}
 use Rattle.zero.proofs.tracking.is_calm.Statement.{statement}
 use Rattle.zero.proofs.tracking.is_calm.Tie as tie
 
-is-fit-requires : tie.Need-is-fit-requires
+is-fit-requires : tie.Need-is_fit-requires
 is-fit-requires c κs = search rules
 
-returns : tie.Need-returns
-returns c = simp (sym c.before.is-fit.ensures ∙ not-true _ c.if1.true)
+returns : tie.Need-returns-then-not-is_fit
+returns c = simp (sym c.before.is_fit.ensures ∙ not-true _ c.if-not-is_fit.true)
 
-returns-2 : tie.Need-returns-2
+returns-2 : tie.Need-returns-then-not-idle
 returns-2 c =
     let e = c.before in
-    simp (sym e.before.is-fit.ensures ∙ not-false _ e.if1.false, not-true e.before.before.args.idle c.if2.true)
+    simp (sym e.before.is_fit.ensures ∙ not-false _ e.if-not-is_fit.false, not-true e.before.before.args.idle c.if-not-idle.true)
 
-returns-3 : tie.Need-returns-3
+returns-3 : tie.Need-returns-then-keyed
 returns-3 c =
     let e = c.before.before in
-    simp (sym e.before.is-fit.ensures ∙ not-false _ e.if1.false, not-false e.before.before.args.idle c.before.if2.false, c.if3.true)
+    simp (sym e.before.is_fit.ensures ∙ not-false _ e.if-not-is_fit.false, not-false e.before.before.args.idle c.before.if-not-idle.false, c.if-keyed.true)
 
-returns-4 : tie.Need-returns-4
+returns-4 : tie.Need-returns-then-x
 returns-4 c =
     let k = c.before in
     let e = k.before.before in
     simp (
-      sym e.before.is-fit.ensures ∙ not-false _ e.if1.false,
-      not-false e.before.before.args.idle k.before.if2.false,
-      k.if3.false,
-      c.if4.true,
+      sym e.before.is_fit.ensures ∙ not-false _ e.if-not-is_fit.false,
+      not-false e.before.before.args.idle k.before.if-not-idle.false,
+      k.if-keyed.false,
+      c.if-x.true,
     )
 
 magnitude-requires : tie.Need-magnitude-requires
 magnitude-requires c κs = search rules
 
-cast-result : tie.Need-overflow-cast-result
+cast-result : tie.Need-overflow_cast-result
 cast-result c = search rules
 
-returns-5 : tie.Need-returns-5
+returns-5 : tie.Need-returns
 returns-5 c =
     let o = c.before.before.before in
     let k = o.before in
@@ -51,10 +51,10 @@ returns-5 c =
     simp (
       c.before.magnitude.ensures,
       to_z-of_z f,
-      sym e.before.is-fit.ensures ∙ not-false _ e.if1.false,
-      not-false e.before.before.args.idle k.before.if2.false,
-      k.if3.false,
-      o.if4.false,
+      sym e.before.is_fit.ensures ∙ not-false _ e.if-not-is_fit.false,
+      not-false e.before.before.args.idle k.before.if-not-idle.false,
+      k.if-keyed.false,
+      o.if-x.false,
     )
 
 pub is_calm_spec : {M : Type 1} → statement M

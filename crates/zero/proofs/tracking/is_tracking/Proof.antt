@@ -3,11 +3,11 @@ use borrow.Author.Tests.{lt-ltb, le-ltb}
 use Rattle.zero.proofs.tracking.is_tracking.Statement.{statement}
 use Rattle.zero.proofs.tracking.is_tracking.Tie as tie
 
-returns : tie.Need-returns
-returns c = simp (lt-ltb _ _ c.before.if1.true)
+returns : tie.Need-returns-then-t-gt0
+returns c = simp (lt-ltb _ _ c.before.if-t-gt0.true)
 
-returns-2 : tie.Need-returns-2
-returns-2 c = simp (le-ltb _ _ c.if1.false)
+returns-2 : tie.Need-returns-else-t-gt0
+returns-2 c = simp (le-ltb _ _ c.if-t-gt0.false)
 
 pub is_tracking_spec : {M : Type 1} → statement M
 is_tracking_spec = tie.close (tie.spec returns returns-2)

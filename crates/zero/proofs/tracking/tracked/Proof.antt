@@ -20,37 +20,37 @@ calm_small t idle keyed x e = leb-true (nat_abs x.fine) t.width (and_right (fit_
 width_small : (s : tie.Start) → s.args.s.tracking.width ≤ 255
 width_small s = omega arith
 
-off : (c : tie.Then1) → tracking_on c.before.before.args.s.tracking ≡ false
-off c = sym c.before.is-tracking.ensures ∙ not-true _ c.if1.true
+off : (c : tie.Then-not-is_tracking) → tracking_on c.before.before.args.s.tracking ≡ false
+off c = sym c.before.is_tracking.ensures ∙ not-true _ c.if-not-is_tracking.true
 
-on : (c : tie.Else1) → tracking_on c.before.before.args.s.tracking ≡ true
-on c = sym c.before.is-tracking.ensures ∙ not-false _ c.if1.false
+on : (c : tie.Else-not-is_tracking) → tracking_on c.before.before.args.s.tracking ≡ true
+on c = sym c.before.is_tracking.ensures ∙ not-false _ c.if-not-is_tracking.false
 
-is-tracking-requires : tie.Need-is-tracking-requires
+is-tracking-requires : tie.Need-is_tracking-requires
 is-tracking-requires c κs = search rules
 
-returns : tie.Need-returns
+returns : tie.Need-returns-then-not-is_tracking
 unfolding tracked_of
 returns c = simp (off c)
 
-is-calm-requires : tie.Need-is-calm-requires
+is-calm-requires : tie.Need-is_calm-requires
 is-calm-requires c κs = search rules
 
-counted-up-requires : tie.Need-counted-up-requires
+counted-up-requires : tie.Need-counted_up-requires
 counted-up-requires c κs =
     let s = c.before.before.before.before in
     let a = s.args in
-    omega (arith, width_small s, calm_small a.s.tracking a.idle a.keyed a.x (sym c.before.is-calm.ensures ∙ c.if2.true))
+    omega (arith, width_small s, calm_small a.s.tracking a.idle a.keyed a.x (sym c.before.is_calm.ensures ∙ c.if-is_calm.true))
 
-returns-2 : tie.Need-returns-2
+returns-2 : tie.Need-returns-then-is_calm
 unfolding tracked_of
 returns-2 c =
     let m = c.before.before in
-    simp (c.counted-up.ensures, on m.before, sym m.is-calm.ensures ∙ c.before.if2.true)
+    simp (c.counted_up.ensures, on m.before, sym m.is_calm.ensures ∙ c.before.if-is_calm.true)
 
-returns-3 : tie.Need-returns-3
+returns-3 : tie.Need-returns
 unfolding tracked_of
-returns-3 c = simp (on c.before.before, sym c.before.is-calm.ensures ∙ c.if2.false)
+returns-3 c = simp (on c.before.before, sym c.before.is_calm.ensures ∙ c.if-is_calm.false)
 
 pub tracked_spec : {M : Type 1} → statement M
 tracked_spec =
