@@ -24,18 +24,18 @@ numbered : (b : Board) (s : Scale) (w : ℤ) (fit : Bool) (r : Analog) → r ≡
     → (r ≡ analog_of b s w fit) × ((analog_number r ≡ analog_due b fit) × (analog_values r ≡ analog_values_due b s w fit))
 numbered b s w fit r e = (e, (ap analog_number e ∙ analog_number_lem b s w fit, ap analog_values e ∙ analog_values_lem b s w fit))
 
-returns : tie.Need-returns-then-not-fit
+returns-then-not-fit : tie.Need-returns-then-not-fit
 unfolding analog_of
-returns c =
+returns-then-not-fit c =
     let a = c.before.args in
     numbered a.board a.scale a.displayed a.fit _ (simp (not-true a.fit c.if-not-fit.true))
 
-is-fitted-requires : tie.Need-is_fitted-requires
-is-fitted-requires c κs = search rules
+is_fitted-requires : tie.Need-is_fitted-requires
+is_fitted-requires c κs = search rules
 
-returns-2 : tie.Need-returns-then-not-is_fitted
+returns-then-not-is_fitted : tie.Need-returns-then-not-is_fitted
 unfolding analog_of
-returns-2 c =
+returns-then-not-is_fitted c =
     let s = c.before.before.before in
     let a = s.args in
     let none : fitted a.board ≡ false = sym c.before.is_fitted.ensures ∙ not-true _ c.if-not-is_fitted.true in
@@ -43,20 +43,20 @@ returns-2 c =
     numbered a.board a.scale a.displayed a.fit _
     (simp (not-false a.fit c.before.before.if-not-fit.false, no_value a.board x a.scale.span none))
 
-int-to-float-w : tie.Need-int_to_float-w
-int-to-float-w c = search rules
+int_to_float-w : tie.Need-int_to_float-w
+int_to_float-w c = search rules
 
-clipped-requires : tie.Need-clipped-x-requires
-clipped-requires c κs = search rules
+clipped-x-requires : tie.Need-clipped-x-requires
+clipped-x-requires c κs = search rules
 
 enum_told : tie.Need-enum_told-1
 enum_told c = search rules
 
-enum-told-2 : tie.Need-enum_told-in-Current
-enum-told-2 c = search rules
+enum_told-in-Current : tie.Need-enum_told-in-Current
+enum_told-in-Current c = search rules
 
-enum-told-3 : tie.Need-enum_told-in-Voltage
-enum-told-3 c = search rules
+enum_told-in-Voltage : tie.Need-enum_told-in-Voltage
+enum_told-in-Voltage c = search rules
 
 picked : (board : Board) (s : Scale) (w : ℤ) (fit : Bool) (b : Board) (x : Float) → fit ≡ true → board ≡ b
     → x ≡ distance_of s w → on_board b x s.span ≡ analog_of board s w fit
@@ -80,27 +80,27 @@ valued c b e =
     picked a.board a.scale a.displayed a.fit b c.clipped-x.result (not-false a.fit c.before.before.before.before.before.if-not-fit.false) e
     (c.clipped-x.ensures ∙ ap (λ (z : ℤ). clip_of (sub binary64 (f64 z) a.scale.low) a.scale.span) (to_z-of_z s.fits.displayed))
 
-returns-3 : tie.Need-returns-in-None
-returns-3 c = answered c.before.before _ (valued c.before.before None c.enum_told-1.given.1)
+returns-in-None : tie.Need-returns-in-None
+returns-in-None c = answered c.before.before _ (valued c.before.before None c.enum_told-1.given.1)
 
-returns-4 : tie.Need-returns-in-Current
-returns-4 c = answered c.before.before _ (simp (is_16, is_4) (valued c.before.before Current c.enum_told-in-Current-1.given.1))
+returns-in-Current : tie.Need-returns-in-Current
+returns-in-Current c = answered c.before.before _ (simp (is_16, is_4) (valued c.before.before Current c.enum_told-in-Current-1.given.1))
 
-returns-5 : tie.Need-returns-in-Voltage
-returns-5 c = answered c.before.before _ (simp (is_10, is_0) (valued c.before.before Voltage c.enum_told-in-Voltage-1.given.1))
+returns-in-Voltage : tie.Need-returns-in-Voltage
+returns-in-Voltage c = answered c.before.before _ (simp (is_10, is_0) (valued c.before.before Voltage c.enum_told-in-Voltage-1.given.1))
 
 pub analog_value_spec : {M : Type 1} → statement M
 analog_value_spec =
     tie.close
     (tie.spec
-    returns
-    is-fitted-requires
-    returns-2
-    int-to-float-w
-    clipped-requires
+    returns-then-not-fit
+    is_fitted-requires
+    returns-then-not-is_fitted
+    int_to_float-w
+    clipped-x-requires
     enum_told
-    enum-told-2
-    enum-told-3
-    returns-3
-    returns-4
-    returns-5)
+    enum_told-in-Current
+    enum_told-in-Voltage
+    returns-in-None
+    returns-in-Current
+    returns-in-Voltage)

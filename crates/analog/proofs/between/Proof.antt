@@ -3,17 +3,17 @@ use Rattle.outline.specs.Analog.{between_of}
 use Rattle.analog.proofs.between.Statement.{statement}
 use Rattle.analog.proofs.between.Tie as tie
 
-returns : tie.Need-returns-then-x-least
+returns-then-x-least : tie.Need-returns-then-x-least
 unfolding between_of
-returns c = simp c.if-x-least.true
+returns-then-x-least c = simp c.if-x-least.true
 
-returns-2 : tie.Need-returns-then-most-x
+returns-then-most-x : tie.Need-returns-then-most-x
 unfolding between_of
-returns-2 c = simp (c.before.if-x-least.false, c.if-most-x.true)
+returns-then-most-x c = simp (c.before.if-x-least.false, c.if-most-x.true)
 
-returns-3 : tie.Need-returns
+returns : tie.Need-returns
 unfolding between_of
-returns-3 c = simp (c.before.if-x-least.false, c.if-most-x.false)
+returns c = simp (c.before.if-x-least.false, c.if-most-x.false)
 
 pub between_spec : {M : Type 1} → statement M
-between_spec = tie.close (tie.spec returns returns-2 returns-3)
+between_spec = tie.close (tie.spec returns-then-x-least returns-then-most-x returns)

@@ -8,16 +8,16 @@ use Rattle.analog.proofs.clipped.Tie as tie
 between-requires : tie.Need-between-requires
 between-requires c κs = search rules
 
-returns : tie.Need-returns-then-d
+returns-then-d : tie.Need-returns-then-d
 unfolding clip_of
-returns c = simp (← is_0, c.before.if-d.true) c.between.ensures
+returns-then-d c = simp (← is_0, c.before.if-d.true) c.between.ensures
 
 between-requires-2 : tie.Need-between-requires-2
 between-requires-2 c κs = search rules
 
-returns-2 : tie.Need-returns
+returns : tie.Need-returns
 unfolding clip_of
-returns-2 c = simp (← is_0, c.before.if-d.false) c.between-2.ensures
+returns c = simp (← is_0, c.before.if-d.false) c.between-2.ensures
 
 pub clipped_spec : {M : Type 1} → statement M
-clipped_spec = tie.close (tie.spec between-requires returns between-requires-2 returns-2)
+clipped_spec = tie.close (tie.spec between-requires returns-then-d between-requires-2 returns)

@@ -6,28 +6,28 @@ use Rattle.outline.specs.Stages.{advance_of}
 use Rattle.batch.proofs.advance.Statement.{statement}
 use Rattle.batch.proofs.advance.Tie as tie
 
-is-idle-requires : tie.Need-is_idle-requires
-is-idle-requires c κs = search rules
+is_idle-requires : tie.Need-is_idle-requires
+is_idle-requires c κs = search rules
 
-returns : tie.Need-returns-then-is_idle
+returns-then-is_idle : tie.Need-returns-then-is_idle
 unfolding advance_of
-returns c = simp (c.if-is_idle.true, ← c.before.is_idle.ensures)
+returns-then-is_idle c = simp (c.if-is_idle.true, ← c.before.is_idle.ensures)
 
 fail-requires : tie.Need-fail-requires
 fail-requires c κs = search rules
 
-returns-2 : tie.Need-returns-then-unfit
+returns-then-unfit : tie.Need-returns-then-unfit
 unfolding advance_of
-returns-2 c = simp (c.fail.ensures, c.before.if-unfit.true, c.before.before.if-is_idle.false, ← c.before.before.before.is_idle.ensures)
+returns-then-unfit c = simp (c.fail.ensures, c.before.if-unfit.true, c.before.before.if-is_idle.false, ← c.before.before.before.is_idle.ensures)
 
-is-discharging-requires : tie.Need-is_discharging-requires
-is-discharging-requires c κs = search rules
+is_discharging-requires : tie.Need-is_discharging-requires
+is_discharging-requires c κs = search rules
 
 discharged-requires : tie.Need-discharged-requires
 discharged-requires c κs = search rules
 
-returns-3 : tie.Need-returns-then-is_discharging
-returns-3 c =
+returns-then-is_discharging : tie.Need-returns-then-is_discharging
+returns-then-is_discharging c =
     let f = c.before.before.before in
     let a = f.before.before.before in
     let e = simp (to_z-of_z a.ranges.gross) at (c.discharged.ensures a.args.stable a.args.v) in
@@ -36,8 +36,8 @@ returns-3 c =
 batched-requires : tie.Need-batched-requires
 batched-requires c κs = search rules
 
-returns-4 : tie.Need-returns
-returns-4 c =
+returns : tie.Need-returns
+returns c =
     let f = c.before.before.before in
     let a = f.before.before.before in
     let e = simp (to_z-of_z a.ranges.v) at (c.batched.ensures a.args.gross) in
@@ -47,12 +47,12 @@ pub advance_spec : {M : Type 1} → statement M
 advance_spec =
     tie.close
     (tie.spec
-    is-idle-requires
-    returns
+    is_idle-requires
+    returns-then-is_idle
     fail-requires
-    returns-2
-    is-discharging-requires
+    returns-then-unfit
+    is_discharging-requires
     discharged-requires
-    returns-3
+    returns-then-is_discharging
     batched-requires
-    returns-4)
+    returns)

@@ -5,14 +5,14 @@ use borrow.Author.Rules.{rules}
 use Rattle.board.proofs.judged.Statement.{statement}
 use Rattle.board.proofs.judged.Tie as tie
 
-given-refusal-requires : tie.Need-given_refusal-requires
-given-refusal-requires c κs = search rules
+given_refusal-requires : tie.Need-given_refusal-requires
+given_refusal-requires c κs = search rules
 
-bytes-refusal-requires : tie.Need-bytes_refusal-requires
-bytes-refusal-requires c κs = search rules
+bytes_refusal-requires : tie.Need-bytes_refusal-requires
+bytes_refusal-requires c κs = search rules
 
-images-refusal-requires : tie.Need-images_refusal-requires
-images-refusal-requires c κs = search rules
+images_refusal-requires : tie.Need-images_refusal-requires
+images_refusal-requires c κs = search rules
 
 returns : tie.Need-returns
 returns c = c.images_refusal.ensures ∙ (λ i. images_refusal (c.before.before.given_refusal.ensures i) (c.before.bytes_refusal.ensures i))
@@ -20,4 +20,4 @@ returns c = c.images_refusal.ensures ∙ (λ i. images_refusal (c.before.before.
 pub judged_spec : {M : Type 1} → statement M
 judged_spec =
     tie.close
-    (tie.spec given-refusal-requires bytes-refusal-requires images-refusal-requires returns)
+    (tie.spec given_refusal-requires bytes_refusal-requires images_refusal-requires returns)

@@ -4,13 +4,13 @@ use Rattle.board.specs.Board.{length_refusal}
 use Rattle.board.proofs.length_refusal.Statement.{statement}
 use Rattle.board.proofs.length_refusal.Tie as tie
 
-returns : tie.Need-returns-then-n-eq-STATE_LENGTH
+returns-then-n-eq-STATE_LENGTH : tie.Need-returns-then-n-eq-STATE_LENGTH
 unfolding length_refusal
-returns c = simp (eq-eqb _ _ c.if-n-eq-STATE_LENGTH.true)
+returns-then-n-eq-STATE_LENGTH c = simp (eq-eqb _ _ c.if-n-eq-STATE_LENGTH.true)
 
-returns-2 : tie.Need-returns
+returns : tie.Need-returns
 unfolding length_refusal
-returns-2 c = simp (ne_eqb _ _ c.if-n-eq-STATE_LENGTH.false)
+returns c = simp (ne_eqb _ _ c.if-n-eq-STATE_LENGTH.false)
 
 pub length_refusal_spec : {M : Type 1} → statement M
-length_refusal_spec = tie.close (tie.spec returns returns-2)
+length_refusal_spec = tie.close (tie.spec returns-then-n-eq-STATE_LENGTH returns)

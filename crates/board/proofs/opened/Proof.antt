@@ -7,8 +7,8 @@ use borrow.Author.Rules.{rules}
 use Rattle.board.proofs.opened.Statement.{statement}
 use Rattle.board.proofs.opened.Tie as tie
 
-given-at-requires : tie.Need-given_at-requires
-given-at-requires c κs = search rules
+given_at-requires : tie.Need-given_at-requires
+given_at-requires c κs = search rules
 
 open-requires : tie.Need-open-requires
 open-requires c κs = search rules
@@ -18,4 +18,4 @@ unfolding given_in
 returns c e = c.«open».ensures.0 ∙ ap open_of (c.before.given_at.ensures ∙ ap given_at (of_length _ _ e))
 
 pub opened_spec : {M : Type 1} → statement M
-opened_spec = tie.close (tie.spec given-at-requires open-requires returns)
+opened_spec = tie.close (tie.spec given_at-requires open-requires returns)

@@ -14,37 +14,37 @@ use borrow.Author.Rules.{rules}
 use Rattle.board.proofs.pressgully_grow.Statement.{statement}
 use Rattle.board.proofs.pressgully_grow.Tie as tie
 
-length-refusal-requires : tie.Need-length_refusal-requires
-length-refusal-requires c κs = search rules
+length_refusal-requires : tie.Need-length_refusal-requires
+length_refusal-requires c κs = search rules
 
-earlier-refusal-requires : tie.Need-earlier_refusal-requires
-earlier-refusal-requires c κs = search rules
+earlier_refusal-requires : tie.Need-earlier_refusal-requires
+earlier_refusal-requires c κs = search rules
 
-images-refusal-requires : tie.Need-images_refusal-bytes-requires
-images-refusal-requires c κs = search rules
+images_refusal-bytes-requires : tie.Need-images_refusal-bytes-requires
+images_refusal-bytes-requires c κs = search rules
 
-given-refusal-requires : tie.Need-given_refusal-requires
-given-refusal-requires c κs = search rules
+given_refusal-requires : tie.Need-given_refusal-requires
+given_refusal-requires c κs = search rules
 
-images-refusal-requires-2 : tie.Need-images_refusal-why-requires
-images-refusal-requires-2 c κs = search rules
+images_refusal-why-requires : tie.Need-images_refusal-why-requires
+images_refusal-why-requires c κs = search rules
 
-cast-result : tie.Need-overflow_cast-result
-cast-result c = search rules
+overflow_cast-result : tie.Need-overflow_cast-result
+overflow_cast-result c = search rules
 
-returns : tie.Need-returns-then-why-ne0
-returns c =
+returns-then-why-ne0 : tie.Need-returns-then-why-ne0
+returns-then-why-ne0 c =
     let a = c.before.before.before.before.before.before.before.before.before.args in
     let e = c.before.images_refusal-why.ensures ∙ (λ i. images_refusal (c.before.before.given_refusal.ensures i) ((c.before.before.before.images_refusal-bytes.ensures ∙ (λ j. images_refusal (c.before.before.before.before.before.length_refusal.ensures j) (c.before.before.before.before.earlier_refusal.ensures j))) i)) in
     let r = grow_kept a.settings.now a.earlier.now a.state-1.now (λ k. c.if-why-ne0.true (e ∙ k)) in
     (e ∙ r.0, r.1)
 
-is-possible-requires : tie.Need-is_possible-requires
-is-possible-requires c κs = search rules
+is_possible-requires : tie.Need-is_possible-requires
+is_possible-requires c κs = search rules
 
-returns-2 : tie.Need-returns-then-not-is_possible
+returns-then-not-is_possible : tie.Need-returns-then-not-is_possible
 unfolding given_in
-returns-2 c =
+returns-then-not-is_possible c =
     let a = c.before.before.before.before.before.before.before.before.before.before.before.args in
     let e = c.before.before.before.images_refusal-why.ensures ∙ (λ i. images_refusal (c.before.before.before.before.given_refusal.ensures i) ((c.before.before.before.before.before.images_refusal-bytes.ensures ∙ (λ j. images_refusal (c.before.before.before.before.before.before.before.length_refusal.ensures j) (c.before.before.before.before.before.before.earlier_refusal.ensures j))) i)) in
     let w = sym e ∙ c.before.before.if-why-ne0.false in
@@ -57,9 +57,9 @@ opened-requires c κs = search rules
 enum_told : tie.Need-enum_told-1
 enum_told c = search rules
 
-returns-3 : tie.Need-returns-in-Refused
+returns-in-Refused : tie.Need-returns-in-Refused
 unfolding given_in
-returns-3 c =
+returns-in-Refused c =
     let a = c.before.before.before.before.before.before.before.before.before.before.before.before.before.before.args in
     let e = c.before.before.before.before.before.before.images_refusal-why.ensures ∙ (λ i. images_refusal (c.before.before.before.before.before.before.before.given_refusal.ensures i) ((c.before.before.before.before.before.before.before.before.images_refusal-bytes.ensures ∙ (λ j. images_refusal (c.before.before.before.before.before.before.before.before.before.before.length_refusal.ensures j) (c.before.before.before.before.before.before.before.before.before.earlier_refusal.ensures j))) i)) in
     let w = sym e ∙ c.before.before.before.before.before.if-why-ne0.false in
@@ -67,24 +67,24 @@ returns-3 c =
     let p = sym (c.before.before.before.before.is_possible.ensures ∙ possible_here _ _ g (grow-earlier a.settings.now a.earlier.now a.state-1.now w)) ∙ not-false _ c.before.before.before.if-not-is_possible.false in
     grow-settings a.settings.now a.earlier.now a.state-1.now w p (sym (c.before.before.opened.ensures g) ∙ c.enum_told-1.given.1)
 
-enum-told-2 : tie.Need-enum_told-in-Accepted
-enum-told-2 c = search rules
+enum_told-in-Accepted : tie.Need-enum_told-in-Accepted
+enum_told-in-Accepted c = search rules
 
 clear-requires : tie.Need-clear-requires
 clear-requires c κs = search rules
 
-put-weighed-requires : tie.Need-put_weighed-requires
-put-weighed-requires c κs = search rules
+put_weighed-requires : tie.Need-put_weighed-requires
+put_weighed-requires c κs = search rules
 
-put-batched-requires : tie.Need-put_batched-requires
-put-batched-requires c κs = search rules
+put_batched-requires : tie.Need-put_batched-requires
+put_batched-requires c κs = search rules
 
-same_length : tie.Need-shape_of-state-in-Accepted
-same_length c = search rules
+shape_of-state-in-Accepted : tie.Need-shape_of-state-in-Accepted
+shape_of-state-in-Accepted c = search rules
 
-returns-4 : tie.Need-returns-in-Accepted
+returns-in-Accepted : tie.Need-returns-in-Accepted
 unfolding given_in open_state
-returns-4 c =
+returns-in-Accepted c =
     let a = c.before.before.before.before.before.before.before.before.before.before.before.before.before.before.before.before.before.before.before.before.before.before.before.before.before.before.args in
     let e = c.before.before.before.before.before.before.before.before.before.before.before.before.before.before.before.before.before.before.images_refusal-why.ensures ∙ (λ i. images_refusal (c.before.before.before.before.before.before.before.before.before.before.before.before.before.before.before.before.before.before.before.given_refusal.ensures i) ((c.before.before.before.before.before.before.before.before.before.before.before.before.before.before.before.before.before.before.before.before.images_refusal-bytes.ensures ∙ (λ j. images_refusal (c.before.before.before.before.before.before.before.before.before.before.before.before.before.before.before.before.before.before.before.before.before.before.length_refusal.ensures j) (c.before.before.before.before.before.before.before.before.before.before.before.before.before.before.before.before.before.before.before.before.before.earlier_refusal.ensures j))) i)) in
     let w = sym e ∙ c.before.before.before.before.before.before.before.before.before.before.before.before.before.before.before.before.before.if-why-ne0.false in
@@ -100,21 +100,21 @@ pub pressgully_grow_spec : {M : Type 1} → statement M
 pressgully_grow_spec =
     tie.close
     (tie.spec
-    length-refusal-requires
-    earlier-refusal-requires
-    images-refusal-requires
-    given-refusal-requires
-    images-refusal-requires-2
-    cast-result
-    returns
-    is-possible-requires
-    returns-2
+    length_refusal-requires
+    earlier_refusal-requires
+    images_refusal-bytes-requires
+    given_refusal-requires
+    images_refusal-why-requires
+    overflow_cast-result
+    returns-then-why-ne0
+    is_possible-requires
+    returns-then-not-is_possible
     opened-requires
     enum_told
-    returns-3
-    enum-told-2
+    returns-in-Refused
+    enum_told-in-Accepted
     clear-requires
-    put-weighed-requires
-    put-batched-requires
-    same_length
-    returns-4)
+    put_weighed-requires
+    put_batched-requires
+    shape_of-state-in-Accepted
+    returns-in-Accepted)

@@ -6,20 +6,20 @@ use borrow.Author.Rules.{rules}
 use Rattle.board.proofs.pressgully_open.Statement.{statement}
 use Rattle.board.proofs.pressgully_open.Tie as tie
 
-given-refusal-requires : tie.Need-given_refusal-requires
-given-refusal-requires c κs = search rules
+given_refusal-requires : tie.Need-given_refusal-requires
+given_refusal-requires c κs = search rules
 
-length-refusal-requires : tie.Need-length_refusal-requires
-length-refusal-requires c κs = search rules
+length_refusal-requires : tie.Need-length_refusal-requires
+length_refusal-requires c κs = search rules
 
-images-refusal-requires : tie.Need-images_refusal-why-requires
-images-refusal-requires c κs = search rules
+images_refusal-why-requires : tie.Need-images_refusal-why-requires
+images_refusal-why-requires c κs = search rules
 
-cast-result : tie.Need-overflow_cast-result
-cast-result c = search rules
+overflow_cast-result : tie.Need-overflow_cast-result
+overflow_cast-result c = search rules
 
-returns : tie.Need-returns-then-why-ne0
-returns c =
+returns-then-why-ne0 : tie.Need-returns-then-why-ne0
+returns-then-why-ne0 c =
     let e = c.before.images_refusal-why.ensures ∙ (λ i. images_refusal (c.before.before.before.given_refusal.ensures i) (c.before.before.length_refusal.ensures i)) in
     let r = open_images _ _ (λ k. c.if-why-ne0.true (e ∙ k)) in
     (e ∙ r.0, r.1)
@@ -30,24 +30,24 @@ opened-requires c κs = search rules
 enum_told : tie.Need-enum_told-1
 enum_told c = search rules
 
-returns-2 : tie.Need-returns-in-Refused
-returns-2 c =
+returns-in-Refused : tie.Need-returns-in-Refused
+returns-in-Refused c =
     let a = c.before.before.before.before.before.before.before.before.before.args in
     let e = c.before.before.before.before.images_refusal-why.ensures ∙ (λ i. images_refusal (c.before.before.before.before.before.before.given_refusal.ensures i) (c.before.before.before.before.before.length_refusal.ensures i)) in
     let w = sym e ∙ c.before.before.before.if-why-ne0.false in
     open_settings a.settings.now a.state-1.now w (sym (c.before.before.opened.ensures (open_given a.settings.now a.state-1.now w)) ∙ c.enum_told-1.given.1)
 
-enum-told-2 : tie.Need-enum_told-in-Accepted
-enum-told-2 c = search rules
+enum_told-in-Accepted : tie.Need-enum_told-in-Accepted
+enum_told-in-Accepted c = search rules
 
 clear-requires : tie.Need-clear-requires
 clear-requires c κs = search rules
 
-same_length : tie.Need-shape_of-state-in-Accepted
-same_length c = search rules
+shape_of-state-in-Accepted : tie.Need-shape_of-state-in-Accepted
+shape_of-state-in-Accepted c = search rules
 
-returns-3 : tie.Need-returns-in-Accepted
-returns-3 c =
+returns-in-Accepted : tie.Need-returns-in-Accepted
+returns-in-Accepted c =
     let a = c.before.before.before.before.before.before.before.before.before.before.before.before.before.args in
     let e = c.before.before.before.before.before.before.before.before.images_refusal-why.ensures ∙ (λ i. images_refusal (c.before.before.before.before.before.before.before.before.before.before.given_refusal.ensures i) (c.before.before.before.before.before.before.before.before.before.length_refusal.ensures i)) in
     let w = sym e ∙ c.before.before.before.before.before.before.before.if-why-ne0.false in
@@ -58,15 +58,15 @@ pub pressgully_open_spec : {M : Type 1} → statement M
 pressgully_open_spec =
     tie.close
     (tie.spec
-    given-refusal-requires
-    length-refusal-requires
-    images-refusal-requires
-    cast-result
-    returns
+    given_refusal-requires
+    length_refusal-requires
+    images_refusal-why-requires
+    overflow_cast-result
+    returns-then-why-ne0
     opened-requires
     enum_told
-    returns-2
-    enum-told-2
+    returns-in-Refused
+    enum_told-in-Accepted
     clear-requires
-    same_length
-    returns-3)
+    shape_of-state-in-Accepted
+    returns-in-Accepted)

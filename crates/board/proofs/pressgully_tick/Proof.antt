@@ -13,31 +13,31 @@ use borrow.Author.Rules.{rules}
 use Rattle.board.proofs.pressgully_tick.Statement.{statement}
 use Rattle.board.proofs.pressgully_tick.Tie as tie
 
-judged-requires : tie.Need-judged-why-requires
-judged-requires c κs = search rules
+judged-why-requires : tie.Need-judged-why-requires
+judged-why-requires c κs = search rules
 
-cast-result : tie.Need-overflow_cast-result
-cast-result c = search rules
+overflow_cast-result : tie.Need-overflow_cast-result
+overflow_cast-result c = search rules
 
-same_length : tie.Need-shape_of-state-then-why-ne0
-same_length c = search rules
+shape_of-state-then-why-ne0 : tie.Need-shape_of-state-then-why-ne0
+shape_of-state-then-why-ne0 c = search rules
 
-returns : tie.Need-returns-then-why-ne0
-returns c =
+returns-then-why-ne0 : tie.Need-returns-then-why-ne0
+returns-then-why-ne0 c =
     let a = c.before.before.before.before.before.before.before.args in
     let e = c.before.judged-why.ensures in
     let r = tick_kept a.settings.now a.state-1.now a.count a.contact a.request a.points.now a.answer-1.now _ (by_bytes _ _ (λ k. c.if-why-ne0.true (e ∙ k))) (λ k. c.if-why-ne0.true (e ∙ k)) in
     (e ∙ r.0, (r.1, r.2))
 
-is-possible-requires : tie.Need-is_possible-requires
-is-possible-requires c κs = search rules
+is_possible-requires : tie.Need-is_possible-requires
+is_possible-requires c κs = search rules
 
-same-length-2 : tie.Need-shape_of-state-then-not-is_possible
-same-length-2 c = search rules
+shape_of-state-then-not-is_possible : tie.Need-shape_of-state-then-not-is_possible
+shape_of-state-then-not-is_possible c = search rules
 
-returns-2 : tie.Need-returns-then-not-is_possible
+returns-then-not-is_possible : tie.Need-returns-then-not-is_possible
 unfolding given_in
-returns-2 c =
+returns-then-not-is_possible c =
     let a = c.before.before.before.before.before.before.before.before.before.before.args in
     let w = sym c.before.before.before.before.judged-why.ensures ∙ c.before.before.before.if-why-ne0.false in
     let p = sym (c.before.is_possible.ensures ∙ possible_here _ _ (first_given_lem a.settings.now a.state-1.now w) (first_image a.settings.now a.state-1.now w)) ∙ not-true _ c.if-not-is_possible.true in
@@ -50,12 +50,12 @@ opened-requires c κs = search rules
 enum_told : tie.Need-enum_told-1
 enum_told c = search rules
 
-same-length-3 : tie.Need-shape_of-state-in-Refused
-same-length-3 c = search rules
+shape_of-state-in-Refused : tie.Need-shape_of-state-in-Refused
+shape_of-state-in-Refused c = search rules
 
-returns-3 : tie.Need-returns-in-Refused
+returns-in-Refused : tie.Need-returns-in-Refused
 unfolding given_in
-returns-3 c =
+returns-in-Refused c =
     let a = c.before.before.before.before.before.before.before.before.before.before.before.before.before.args in
     let w = sym c.before.before.before.before.before.before.before.judged-why.ensures ∙ c.before.before.before.before.before.before.if-why-ne0.false in
     let g = first_given_lem a.settings.now a.state-1.now w in
@@ -64,27 +64,27 @@ returns-3 c =
     let r = tick_kept a.settings.now a.state-1.now a.count a.contact a.request a.points.now a.answer-1.now 10 (both_settings _ _ (unrefused a.settings.now a.state-1.now w p) o) (λ k. absurd (omega arith)) in
     (r.0, (r.1, r.2))
 
-enum-known-s : tie.Need-enum_known-s
-enum-known-s c = search rules
+enum_known-s : tie.Need-enum_known-s
+enum_known-s c = search rules
 
-is-request-requires : tie.Need-is_request-known-requires
-is-request-requires c κs = search rules
+is_request-known-requires : tie.Need-is_request-known-requires
+is_request-known-requires c κs = search rules
 
-request-by-requires : tie.Need-request_by-asked-requires
-request-by-requires c κs = search rules
+request_by-asked-requires : tie.Need-request_by-asked-requires
+request_by-asked-requires c κs = search rules
 
-run-tick-requires : tie.Need-run_tick-requires
-run-tick-requires c κs = search rules
+run_tick-requires : tie.Need-run_tick-requires
+run_tick-requires c κs = search rules
 
-same-length-4 : tie.Need-shape_of-state-in-Accepted
-same-length-4 c = search rules
+shape_of-state-in-Accepted : tie.Need-shape_of-state-in-Accepted
+shape_of-state-in-Accepted c = search rules
 
-same-length-5 : tie.Need-shape_of-answer-in-Accepted
-same-length-5 c = search rules
+shape_of-answer-in-Accepted : tie.Need-shape_of-answer-in-Accepted
+shape_of-answer-in-Accepted c = search rules
 
-returns-4 : tie.Need-returns-in-Accepted
+returns-in-Accepted : tie.Need-returns-in-Accepted
 unfolding given_in tick_by
-returns-4 c =
+returns-in-Accepted c =
     let s = c.before.before.before.before.before.before.before.before.before.before.before.before.before.before.before.before.before.before.before.before.before.before.before in
     let a = s.args in
     let w = sym c.before.before.before.before.before.before.before.before.before.before.before.before.before.before.before.before.before.judged-why.ensures ∙ c.before.before.before.before.before.before.before.before.before.before.before.before.before.before.before.before.if-why-ne0.false in
@@ -108,21 +108,21 @@ pub pressgully_tick_spec : {M : Type 1} → statement M
 pressgully_tick_spec =
     tie.close
     (tie.spec
-    judged-requires
-    cast-result
-    same_length
-    returns
-    is-possible-requires
-    same-length-2
-    returns-2
+    judged-why-requires
+    overflow_cast-result
+    shape_of-state-then-why-ne0
+    returns-then-why-ne0
+    is_possible-requires
+    shape_of-state-then-not-is_possible
+    returns-then-not-is_possible
     opened-requires
     enum_told
-    same-length-3
-    returns-3
-    enum-known-s
-    is-request-requires
-    request-by-requires
-    run-tick-requires
-    same-length-4
-    same-length-5
-    returns-4)
+    shape_of-state-in-Refused
+    returns-in-Refused
+    enum_known-s
+    is_request-known-requires
+    request_by-asked-requires
+    run_tick-requires
+    shape_of-state-in-Accepted
+    shape_of-answer-in-Accepted
+    returns-in-Accepted)

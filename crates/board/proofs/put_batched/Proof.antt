@@ -6,26 +6,26 @@ use borrow.Author.Rules.{rules}
 use Rattle.board.proofs.put_batched.Statement.{statement}
 use Rattle.board.proofs.put_batched.Tie as tie
 
-setpoints-at-requires : tie.Need-setpoints_at-requires
-setpoints-at-requires c κs = search rules
+setpoints_at-requires : tie.Need-setpoints_at-requires
+setpoints_at-requires c κs = search rules
 
-put-setpoints-requires : tie.Need-put_setpoints-requires
-put-setpoints-requires c κs = search rules
+put_setpoints-requires : tie.Need-put_setpoints-requires
+put_setpoints-requires c κs = search rules
 
-sequence-at-requires : tie.Need-sequence_at-requires
-sequence-at-requires c κs = search rules
+sequence_at-requires : tie.Need-sequence_at-requires
+sequence_at-requires c κs = search rules
 
-put-sequence-requires : tie.Need-put_sequence-requires
-put-sequence-requires c κs = search rules
+put_sequence-requires : tie.Need-put_sequence-requires
+put_sequence-requires c κs = search rules
 
-totals-at-requires : tie.Need-totals_at-requires
-totals-at-requires c κs = search rules
+totals_at-requires : tie.Need-totals_at-requires
+totals_at-requires c κs = search rules
 
-put-totals-requires : tie.Need-put_totals-requires
-put-totals-requires c κs = search rules
+put_totals-requires : tie.Need-put_totals-requires
+put_totals-requires c κs = search rules
 
-same_length : tie.Need-shape_of-state
-same_length c = search rules
+shape_of-state : tie.Need-shape_of-state
+shape_of-state c = search rules
 
 returns : tie.Need-returns
 returns c k st h =
@@ -39,11 +39,11 @@ pub put_batched_spec : {M : Type 1} → statement M
 put_batched_spec =
     tie.close
     (tie.spec
-    setpoints-at-requires
-    put-setpoints-requires
-    sequence-at-requires
-    put-sequence-requires
-    totals-at-requires
-    put-totals-requires
-    same_length
+    setpoints_at-requires
+    put_setpoints-requires
+    sequence_at-requires
+    put_sequence-requires
+    totals_at-requires
+    put_totals-requires
+    shape_of-state
     returns)

@@ -7,32 +7,32 @@ use borrow.Author.Rules.{rules}
 use Rattle.board.proofs.put_weighed.Statement.{statement}
 use Rattle.board.proofs.put_weighed.Tie as tie
 
-book-at-requires : tie.Need-book_at-requires
-book-at-requires c κs = search rules
+book_at-requires : tie.Need-book_at-requires
+book_at-requires c κs = search rules
 
-put-book-requires : tie.Need-put_book-requires
-put-book-requires c κs = search rules
+put_book-requires : tie.Need-put_book-requires
+put_book-requires c κs = search rules
 
-stability-at-requires : tie.Need-stability_at-requires
-stability-at-requires c κs = search rules
+stability_at-requires : tie.Need-stability_at-requires
+stability_at-requires c κs = search rules
 
-put-stability-requires : tie.Need-put_stability-requires
-put-stability-requires c κs = search rules
+put_stability-requires : tie.Need-put_stability-requires
+put_stability-requires c κs = search rules
 
-weighing-at-requires : tie.Need-weighing_at-requires
-weighing-at-requires c κs = search rules
+weighing_at-requires : tie.Need-weighing_at-requires
+weighing_at-requires c κs = search rules
 
-put-weighing-requires : tie.Need-put_weighing-requires
-put-weighing-requires c κs = search rules
+put_weighing-requires : tie.Need-put_weighing-requires
+put_weighing-requires c κs = search rules
 
-panel-at-requires : tie.Need-panel_at-requires
-panel-at-requires c κs = search rules
+panel_at-requires : tie.Need-panel_at-requires
+panel_at-requires c κs = search rules
 
-put-panel-requires : tie.Need-put_panel-requires
-put-panel-requires c κs = search rules
+put_panel-requires : tie.Need-put_panel-requires
+put_panel-requires c κs = search rules
 
-same_length : tie.Need-shape_of-state
-same_length c = search rules
+shape_of-state : tie.Need-shape_of-state
+shape_of-state c = search rules
 
 returns : tie.Need-returns
 returns c k st h =
@@ -47,13 +47,13 @@ pub put_weighed_spec : {M : Type 1} → statement M
 put_weighed_spec =
     tie.close
     (tie.spec
-    book-at-requires
-    put-book-requires
-    stability-at-requires
-    put-stability-requires
-    weighing-at-requires
-    put-weighing-requires
-    panel-at-requires
-    put-panel-requires
-    same_length
+    book_at-requires
+    put_book-requires
+    stability_at-requires
+    put_stability-requires
+    weighing_at-requires
+    put_weighing-requires
+    panel_at-requires
+    put_panel-requires
+    shape_of-state
     returns)

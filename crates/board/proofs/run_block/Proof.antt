@@ -25,30 +25,30 @@ use Rattle.board.proofs.run_block.Tie as tie
 fold_more : {A B : Type 0} (f : B → A → B) (b : B) (l : List A) (i : ℕ) (d : A) → i < length l → foldl f b (take (i + 1) l) ≡ f (foldl f b (take i l)) (get_or l i d)
 fold_more f b l i d h = rw (add-one, take-suc l i d h, foldl-append)
 
-abbrev invariant_loop : tie.invariant_loop
+abbrev invariant_loop : tie.invariant-loop-i
 invariant_loop s counts contact state₀ i₀ state i = (i ≤ length counts) × Turns state₀ state (λ (st : State). foldl (count_in s contact) st (take i counts)) × (length state ≡ length state₀)
 
-abbrev decreases_loop : tie.decreases_loop
+abbrev decreases_loop : tie.decreases-loop-i
 decreases_loop s counts contact state₀ i₀ state i = length counts - i
 
-returns : tie.Need-returns-then-counts-gt-BLOCK_LIMIT invariant_loop decreases_loop
+returns-then-counts-gt-BLOCK_LIMIT : tie.Need-returns-then-counts-gt-BLOCK_LIMIT invariant_loop decreases_loop
 unfolding block_of
-returns c =
+returns-then-counts-gt-BLOCK_LIMIT c =
     let a = c.before.before.args in
     let long = lt-leb (length a.counts.now) block_limit (omega (arith, c.if-counts-gt-BLOCK_LIMIT.true)) in
     ((λ st h. simp long), (λ st h. simp long (sym h.image)))
 
-loop-holds : tie.Need-loop-i-init invariant_loop decreases_loop
-loop-holds c = (omega arith, (λ st h. h), refl)
+loop-i-init : tie.Need-loop-i-init invariant_loop decreases_loop
+loop-i-init c = (omega arith, (λ st h. h), refl)
 
-mul-count : tie.Need-offset_bounds-counts-i invariant_loop decreases_loop
-mul-count c = search rules
+offset_bounds-counts-i : tie.Need-offset_bounds-counts-i invariant_loop decreases_loop
+offset_bounds-counts-i c = search rules
 
-shared-slice-copy-out-count : tie.Need-bounds-counts-i invariant_loop decreases_loop
-shared-slice-copy-out-count c = search rules
+bounds-counts-i : tie.Need-bounds-counts-i invariant_loop decreases_loop
+bounds-counts-i c = search rules
 
-enter-requires : tie.Need-enter-x-requires invariant_loop decreases_loop
-enter-requires c κs = search rules
+enter-x-requires : tie.Need-enter-x-requires invariant_loop decreases_loop
+enter-x-requires c κs = search rules
 
 track-requires : tie.Need-track-requires invariant_loop decreases_loop
 track-requires c κs = search rules
@@ -56,15 +56,15 @@ track-requires c κs = search rules
 step-requires : tie.Need-step-requires invariant_loop decreases_loop
 step-requires c κs = search rules
 
-add-i : tie.Need-overflow_add-i invariant_loop decreases_loop
-add-i c = search rules
+overflow_add-i : tie.Need-overflow_add-i invariant_loop decreases_loop
+overflow_add-i c = search rules
 
-loop-less : tie.Need-loop-i-smaller invariant_loop decreases_loop
-loop-less c = search rules
+loop-i-smaller : tie.Need-loop-i-smaller invariant_loop decreases_loop
+loop-i-smaller c = search rules
 
-loop-again : tie.Need-loop-i-preserved invariant_loop decreases_loop
+loop-i-preserved : tie.Need-loop-i-preserved invariant_loop decreases_loop
 unfolding count_in
-loop-again c =
+loop-i-preserved c =
     let w = c.before.before.before.before.before.before.before.before.before.before.before.before.before.before in
     let a = w.before.before.before.args in
     let within = c.before.before.before.before.before.before.before.before.before.before.before.before.before.loop-i-test.true in
@@ -79,12 +79,12 @@ loop-again c =
       search (rules, c.before.before.step, c.before.before.before.before.before.before.track, c.before.before.before.before.before.before.before.before.before.before.enter-x),
     )
 
-same_length : tie.Need-shape_of-state invariant_loop decreases_loop
-same_length c = search rules
+shape_of-state : tie.Need-shape_of-state invariant_loop decreases_loop
+shape_of-state c = search rules
 
-returns-2 : tie.Need-returns invariant_loop decreases_loop
+returns : tie.Need-returns invariant_loop decreases_loop
 unfolding block_of
-returns-2 c =
+returns c =
     let w = c.before in
     let a = w.before.before.before.args in
     let few = le-leb (length a.counts.now) block_limit w.before.if-counts-gt-BLOCK_LIMIT.false in
@@ -99,15 +99,15 @@ run_block_spec =
     (tie.spec
     invariant_loop
     decreases_loop
-    returns
-    loop-holds
-    mul-count
-    shared-slice-copy-out-count
-    enter-requires
+    returns-then-counts-gt-BLOCK_LIMIT
+    loop-i-init
+    offset_bounds-counts-i
+    bounds-counts-i
+    enter-x-requires
     track-requires
     step-requires
-    add-i
-    loop-less
-    loop-again
-    same_length
-    returns-2)
+    overflow_add-i
+    loop-i-smaller
+    loop-i-preserved
+    shape_of-state
+    returns)

@@ -61,76 +61,76 @@ falls_short c st h =
     14 a.answer-1.now c.before.before.before.before.before.before.before.step-in-Short.new.1.1.1.0 c.before.before.answer-in-Short.new.1.1.1.1.1.1.0
     c.before.before.before.before.before.before.before.before.before.before.before.before.before.before.before.before.before.enum_told-1.given.1 refl r
 
-returns : tie.Need-returns-then-answer-lt-ANSWER_LENGTH
-returns c =
+returns-then-answer-lt-ANSWER_LENGTH : tie.Need-returns-then-answer-lt-ANSWER_LENGTH
+returns-then-answer-lt-ANSWER_LENGTH c =
     let no = lt-leb answer_length (length c.before.before.before.before.before.args.answer-1.now) c.if-answer-lt-ANSWER_LENGTH.true in
     ((λ st h. simp no), ((λ st h. simp no), ((λ st h. simp no), (λ st h. simp no))))
 
-command-of-requires : tie.Need-command_of-command-requires
-command-of-requires c κs = search rules
+command_of-command-requires : tie.Need-command_of-command-requires
+command_of-command-requires c κs = search rules
 
-request-of-requires : tie.Need-request_of-request-requires
-request-of-requires c κs = search rules
+request_of-request-requires : tie.Need-request_of-request-requires
+request_of-request-requires c κs = search rules
 
-enter-requires : tie.Need-enter-x-requires
-enter-requires c κs = search rules
+enter-x-requires : tie.Need-enter-x-requires
+enter-x-requires c κs = search rules
 
-ruled-requires : tie.Need-ruled-outcome-requires
-ruled-requires c κs = search rules
+ruled-outcome-requires : tie.Need-ruled-outcome-requires
+ruled-outcome-requires c κs = search rules
 
 reply-requires : tie.Need-reply-requires
 reply-requires c κs = search rules
 
-enum-known-length : tie.Need-enum_known-length
-enum-known-length c = search rules
+enum_known-length : tie.Need-enum_known-length
+enum_known-length c = search rules
 
-granted-requires : tie.Need-granted-done-requires
-granted-requires c κs = search rules
+granted-done-requires : tie.Need-granted-done-requires
+granted-done-requires c κs = search rules
 
 settle-requires : tie.Need-settle-requires
 settle-requires c κs = search rules
 
-settle-batch-requires : tie.Need-settle_batch-requires
-settle-batch-requires c κs = search rules
+settle_batch-requires : tie.Need-settle_batch-requires
+settle_batch-requires c κs = search rules
 
-again-requires : tie.Need-again-x-requires
-again-requires c κs = search rules
+again-x-requires : tie.Need-again-x-requires
+again-x-requires c κs = search rules
 
-is-keyed-requires : tie.Need-is_keyed-requires
-is-keyed-requires c κs = search rules
+is_keyed-requires : tie.Need-is_keyed-requires
+is_keyed-requires c κs = search rules
 
 track-requires : tie.Need-track-requires
 track-requires c κs = search rules
 
-is-held-requires : tie.Need-is_held-requires
-is-held-requires c κs = search rules
+is_held-requires : tie.Need-is_held-requires
+is_held-requires c κs = search rules
 
 step-requires : tie.Need-step-requires
 step-requires c κs = search rules
 
-told-of-requires : tie.Need-told_of-requires
-told-of-requires c κs = search rules
+told_of-requires : tie.Need-told_of-requires
+told_of-requires c κs = search rules
 
-told-number-requires : tie.Need-told_number-n-requires
-told-number-requires c κs = search rules
+told_number-n-requires : tie.Need-told_number-n-requires
+told_number-n-requires c κs = search rules
 
 answer-requires : tie.Need-answer-requires
 answer-requires c κs = search rules
 
-cast-result : tie.Need-overflow_cast-result
-cast-result c = search rules
+overflow_cast-result : tie.Need-overflow_cast-result
+overflow_cast-result c = search rules
 
-same_length : tie.Need-shape_of-reply-in-Bytes
-same_length c = search (rules, c.before.before.before.before.before.before.before.before.before.before.before.before.before.before.before.before.before.before.before.before.before.before.before.before.before.before.before.before.before.before.before.before.before.before.before.before.reply, c.before.before.before.before.before.before.before.before.before.step, c.before.before.before.before.before.before.before.before.before.before.before.before.before.before.track, c.before.before.before.before.before.before.before.before.before.before.before.before.before.before.before.before.before.before.before.before.before.settle_batch, c.before.before.before.before.before.before.before.before.before.before.before.before.before.before.before.before.before.before.before.before.before.before.before.before.before.before.before.settle, c.before.before.before.before.before.before.before.before.before.before.before.before.before.before.before.before.before.before.before.before.before.before.before.before.before.before.before.before.before.before.before.before.before.before.before.before.before.before.before.before.before.before.before.enter-x)
+shape_of-reply-in-Bytes : tie.Need-shape_of-reply-in-Bytes
+shape_of-reply-in-Bytes c = search (rules, c.before.before.before.before.before.before.before.before.before.before.before.before.before.before.before.before.before.before.before.before.before.before.before.before.before.before.before.before.before.before.before.before.before.before.before.before.reply, c.before.before.before.before.before.before.before.before.before.step, c.before.before.before.before.before.before.before.before.before.before.before.before.before.before.track, c.before.before.before.before.before.before.before.before.before.before.before.before.before.before.before.before.before.before.before.before.before.settle_batch, c.before.before.before.before.before.before.before.before.before.before.before.before.before.before.before.before.before.before.before.before.before.before.before.before.before.before.before.settle, c.before.before.before.before.before.before.before.before.before.before.before.before.before.before.before.before.before.before.before.before.before.before.before.before.before.before.before.before.before.before.before.before.before.before.before.before.before.before.before.before.before.before.before.enter-x)
 
-same-length-2 : tie.Need-shape_of-state-in-Bytes
-same-length-2 c = search (rules, c.before.before.before.before.before.before.before.before.before.step, c.before.before.before.before.before.before.before.before.before.before.before.before.before.before.track, c.before.before.before.before.before.before.before.before.before.before.before.before.before.before.before.before.before.before.before.before.before.settle_batch, c.before.before.before.before.before.before.before.before.before.before.before.before.before.before.before.before.before.before.before.before.before.before.before.before.before.before.before.settle, c.before.before.before.before.before.before.before.before.before.before.before.before.before.before.before.before.before.before.before.before.before.before.before.before.before.before.before.before.before.before.before.before.before.before.before.before.before.before.before.before.before.before.before.enter-x)
+shape_of-state-in-Bytes : tie.Need-shape_of-state-in-Bytes
+shape_of-state-in-Bytes c = search (rules, c.before.before.before.before.before.before.before.before.before.step, c.before.before.before.before.before.before.before.before.before.before.before.before.before.before.track, c.before.before.before.before.before.before.before.before.before.before.before.before.before.before.before.before.before.before.before.before.before.settle_batch, c.before.before.before.before.before.before.before.before.before.before.before.before.before.before.before.before.before.before.before.before.before.before.before.before.before.before.before.settle, c.before.before.before.before.before.before.before.before.before.before.before.before.before.before.before.before.before.before.before.before.before.before.before.before.before.before.before.before.before.before.before.before.before.before.before.before.before.before.before.before.before.before.before.enter-x)
 
-same-length-3 : tie.Need-shape_of-answer-in-Bytes
-same-length-3 c = search rules
+shape_of-answer-in-Bytes : tie.Need-shape_of-answer-in-Bytes
+shape_of-answer-in-Bytes c = search rules
 
-returns-2 : tie.Need-returns-in-Bytes
-returns-2 c =
+returns-in-Bytes : tie.Need-returns-in-Bytes
+returns-in-Bytes c =
     let a = (start c).args in
     let room = c.before.before.before.before.before.before.before.before.before.before.before.before.before.before.before.before.before.before.before.before.before.before.before.before.before.before.before.before.before.before.before.before.before.before.before.before.before.before.before.before.before.before.before.before.before.before.before.if-answer-lt-ANSWER_LENGTH.false in (
       (λ st h. (fits c st h).told ∙ is_room a.answer-1.now _ 14 room),
@@ -146,29 +146,29 @@ returns-2 c =
 enum_told : tie.Need-enum_told-1
 enum_told c = search rules
 
-put-none-requires : tie.Need-put_none-requires
-put-none-requires c κs = search rules
+put_none-requires : tie.Need-put_none-requires
+put_none-requires c κs = search rules
 
-track-requires-2 : tie.Need-track-requires-in-Short
-track-requires-2 c κs = search rules
+track-requires-in-Short : tie.Need-track-requires-in-Short
+track-requires-in-Short c κs = search rules
 
-step-requires-2 : tie.Need-step-requires-in-Short
-step-requires-2 c κs = search rules
+step-requires-in-Short : tie.Need-step-requires-in-Short
+step-requires-in-Short c κs = search rules
 
-answer-requires-2 : tie.Need-answer-requires-in-Short
-answer-requires-2 c κs = search rules
+answer-requires-in-Short : tie.Need-answer-requires-in-Short
+answer-requires-in-Short c κs = search rules
 
-same-length-4 : tie.Need-shape_of-reply-in-Short
-same-length-4 c = search rules
+shape_of-reply-in-Short : tie.Need-shape_of-reply-in-Short
+shape_of-reply-in-Short c = search rules
 
-same-length-5 : tie.Need-shape_of-state-in-Short
-same-length-5 c = search rules
+shape_of-state-in-Short : tie.Need-shape_of-state-in-Short
+shape_of-state-in-Short c = search rules
 
-same-length-6 : tie.Need-shape_of-answer-in-Short
-same-length-6 c = search rules
+shape_of-answer-in-Short : tie.Need-shape_of-answer-in-Short
+shape_of-answer-in-Short c = search rules
 
-returns-3 : tie.Need-returns-in-Short
-returns-3 c =
+returns-in-Short : tie.Need-returns-in-Short
+returns-in-Short c =
     let a = (start2 c).args in
     let room = c.before.before.before.before.before.before.before.before.before.before.before.before.before.before.before.before.before.before.before.before.before.before.before.before.before.before.before.before.before.before.before.before.if-answer-lt-ANSWER_LENGTH.false in (
       (λ st h. (falls_short c st h).told ∙ is_room a.answer-1.now _ 14 room),
@@ -185,35 +185,35 @@ pub run_line_spec : {M : Type 1} → statement M
 run_line_spec =
     tie.close
     (tie.spec
-    returns
-    command-of-requires
-    request-of-requires
-    enter-requires
-    ruled-requires
+    returns-then-answer-lt-ANSWER_LENGTH
+    command_of-command-requires
+    request_of-request-requires
+    enter-x-requires
+    ruled-outcome-requires
     reply-requires
-    enum-known-length
-    granted-requires
+    enum_known-length
+    granted-done-requires
     settle-requires
-    settle-batch-requires
-    again-requires
-    is-keyed-requires
+    settle_batch-requires
+    again-x-requires
+    is_keyed-requires
     track-requires
-    is-held-requires
+    is_held-requires
     step-requires
-    told-of-requires
-    told-number-requires
+    told_of-requires
+    told_number-n-requires
     answer-requires
-    cast-result
-    same_length
-    same-length-2
-    same-length-3
-    returns-2
+    overflow_cast-result
+    shape_of-reply-in-Bytes
+    shape_of-state-in-Bytes
+    shape_of-answer-in-Bytes
+    returns-in-Bytes
     enum_told
-    put-none-requires
-    track-requires-2
-    step-requires-2
-    answer-requires-2
-    same-length-4
-    same-length-5
-    same-length-6
-    returns-3)
+    put_none-requires
+    track-requires-in-Short
+    step-requires-in-Short
+    answer-requires-in-Short
+    shape_of-reply-in-Short
+    shape_of-state-in-Short
+    shape_of-answer-in-Short
+    returns-in-Short)

@@ -45,58 +45,58 @@ unfolding told_of
 told c st h =
     c.before.before.before.before.before.told_by-told.ensures ∙ sym (λ i. cond (start c).args.known (outcome_number ((done c st h).outcome i)) 13)
 
-returns : tie.Need-returns-then-answer-lt-ANSWER_LENGTH
-returns c =
+returns-then-answer-lt-ANSWER_LENGTH : tie.Need-returns-then-answer-lt-ANSWER_LENGTH
+returns-then-answer-lt-ANSWER_LENGTH c =
     let no = lt-leb answer_length (length c.before.before.before.args.answer-1.now) c.if-answer-lt-ANSWER_LENGTH.true in
     ((λ st h. simp no), ((λ st h. simp no), (λ st h. simp no)))
 
-enter-requires : tie.Need-enter-x-requires
-enter-requires c κs = search rules
+enter-x-requires : tie.Need-enter-x-requires
+enter-x-requires c κs = search rules
 
-ruled-requires : tie.Need-ruled-outcome-requires
-ruled-requires c κs = search rules
+ruled-outcome-requires : tie.Need-ruled-outcome-requires
+ruled-outcome-requires c κs = search rules
 
-granted-requires : tie.Need-granted-done-requires
-granted-requires c κs = search rules
+granted-done-requires : tie.Need-granted-done-requires
+granted-done-requires c κs = search rules
 
 settle-requires : tie.Need-settle-requires
 settle-requires c κs = search rules
 
-settle-batch-requires : tie.Need-settle_batch-requires
-settle-batch-requires c κs = search rules
+settle_batch-requires : tie.Need-settle_batch-requires
+settle_batch-requires c κs = search rules
 
-again-requires : tie.Need-again-x-requires
-again-requires c κs = search rules
+again-x-requires : tie.Need-again-x-requires
+again-x-requires c κs = search rules
 
-is-keyed-requires : tie.Need-is_keyed-requires
-is-keyed-requires c κs = search rules
+is_keyed-requires : tie.Need-is_keyed-requires
+is_keyed-requires c κs = search rules
 
 track-requires : tie.Need-track-requires
 track-requires c κs = search rules
 
-is-held-requires : tie.Need-is_held-requires
-is-held-requires c κs = search rules
+is_held-requires : tie.Need-is_held-requires
+is_held-requires c κs = search rules
 
 step-requires : tie.Need-step-requires
 step-requires c κs = search rules
 
-told-by-requires : tie.Need-told_by-told-requires
-told-by-requires c κs = search rules
+told_by-told-requires : tie.Need-told_by-told-requires
+told_by-told-requires c κs = search rules
 
 answer-requires : tie.Need-answer-requires
 answer-requires c κs = search rules
 
-cast-result : tie.Need-overflow_cast-result
-cast-result c = search rules
+overflow_cast-result : tie.Need-overflow_cast-result
+overflow_cast-result c = search rules
 
-same_length : tie.Need-shape_of-state
-same_length c = search (rules, c.before.before.before.before.before.before.before.before.step, c.before.before.before.before.before.before.before.before.before.before.before.before.before.track, c.before.before.before.before.before.before.before.before.before.before.before.before.before.before.before.before.before.before.before.before.settle_batch, c.before.before.before.before.before.before.before.before.before.before.before.before.before.before.before.before.before.before.before.before.before.before.before.before.before.before.settle, c.before.before.before.before.before.before.before.before.before.before.before.before.before.before.before.before.before.before.before.before.before.before.before.before.before.before.before.before.before.before.before.before.before.before.enter-x)
+shape_of-state : tie.Need-shape_of-state
+shape_of-state c = search (rules, c.before.before.before.before.before.before.before.before.step, c.before.before.before.before.before.before.before.before.before.before.before.before.before.track, c.before.before.before.before.before.before.before.before.before.before.before.before.before.before.before.before.before.before.before.before.settle_batch, c.before.before.before.before.before.before.before.before.before.before.before.before.before.before.before.before.before.before.before.before.before.before.before.before.before.before.settle, c.before.before.before.before.before.before.before.before.before.before.before.before.before.before.before.before.before.before.before.before.before.before.before.before.before.before.before.before.before.before.before.before.before.before.enter-x)
 
-same-length-2 : tie.Need-shape_of-answer
-same-length-2 c = search rules
+shape_of-answer : tie.Need-shape_of-answer
+shape_of-answer c = search rules
 
-returns-2 : tie.Need-returns
-returns-2 c =
+returns : tie.Need-returns
+returns c =
     let a = (start c).args in
     let room = c.before.before.before.before.before.before.before.before.before.before.before.before.before.before.before.before.before.before.before.before.before.before.before.before.before.before.before.before.before.before.before.before.before.before.before.before.if-answer-lt-ANSWER_LENGTH.false in (
       (λ st h. told c st h ∙ is_room a.answer-1.now _ 14 room),
@@ -110,20 +110,20 @@ pub run_tick_spec : {M : Type 1} → statement M
 run_tick_spec =
     tie.close
     (tie.spec
-    returns
-    enter-requires
-    ruled-requires
-    granted-requires
+    returns-then-answer-lt-ANSWER_LENGTH
+    enter-x-requires
+    ruled-outcome-requires
+    granted-done-requires
     settle-requires
-    settle-batch-requires
-    again-requires
-    is-keyed-requires
+    settle_batch-requires
+    again-x-requires
+    is_keyed-requires
     track-requires
-    is-held-requires
+    is_held-requires
     step-requires
-    told-by-requires
+    told_by-told-requires
     answer-requires
-    cast-result
-    same_length
-    same-length-2
-    returns-2)
+    overflow_cast-result
+    shape_of-state
+    shape_of-answer
+    returns)

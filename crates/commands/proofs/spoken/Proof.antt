@@ -4,24 +4,24 @@ use Rattle.outline.specs.Lines.{spoken_of}
 use Rattle.commands.proofs.spoken.Statement.{statement}
 use Rattle.commands.proofs.spoken.Tie as tie
 
-is-prefixed-requires : tie.Need-is_prefixed-requires
-is-prefixed-requires c κs = search rules
+is_prefixed-requires : tie.Need-is_prefixed-requires
+is_prefixed-requires c κs = search rules
 
-prefix-length-requires : tie.Need-prefix_length-requires
-prefix-length-requires c κs = search rules
+prefix_length-requires : tie.Need-prefix_length-requires
+prefix_length-requires c κs = search rules
 
 body-requires : tie.Need-body-requires
 body-requires c κs = search rules
 
-returns : tie.Need-returns-then-is_prefixed
+returns-then-is_prefixed : tie.Need-returns-then-is_prefixed
 unfolding spoken_of
-returns c = simp (c.body.ensures, c.before.prefix_length.ensures, c.before.before.if-is_prefixed.true, ← c.before.before.before.is_prefixed.ensures)
+returns-then-is_prefixed c = simp (c.body.ensures, c.before.prefix_length.ensures, c.before.before.if-is_prefixed.true, ← c.before.before.before.is_prefixed.ensures)
 
-returns-2 : tie.Need-returns-else-is_prefixed
+returns-else-is_prefixed : tie.Need-returns-else-is_prefixed
 unfolding spoken_of
-returns-2 c = simp (c.if-is_prefixed.false, ← c.before.is_prefixed.ensures)
+returns-else-is_prefixed c = simp (c.if-is_prefixed.false, ← c.before.is_prefixed.ensures)
 
 pub spoken_spec : {M : Type 1} → statement M
 spoken_spec =
     tie.close
-    (tie.spec is-prefixed-requires prefix-length-requires body-requires returns returns-2)
+    (tie.spec is_prefixed-requires prefix_length-requires body-requires returns-then-is_prefixed returns-else-is_prefixed)

@@ -22,137 +22,137 @@ use Rattle.outline.specs.Steps.{parts_of, step_idle, step-on, step_back, step-fi
 use Rattle.controller.proofs.tick.Statement.{statement}
 use Rattle.controller.proofs.tick.Tie as tie
 
-raw_of-requires : tie.Need-raw_of-raw-requires
-raw_of-requires c κs = search rules
+raw_of-raw-requires : tie.Need-raw_of-raw-requires
+raw_of-raw-requires c κs = search rules
 
-steadied-requires : tie.Need-steadied-st-requires
-steadied-requires c κs = search rules
+steadied-st-requires : tie.Need-steadied-st-requires
+steadied-st-requires c κs = search rules
 
-book-tick-requires : tie.Need-book_tick-st-requires
-book-tick-requires c κs = search rules
+book_tick-st-requires : tie.Need-book_tick-st-requires
+book_tick-st-requires c κs = search rules
 
-weigh-requires : tie.Need-weigh-x-requires
-weigh-requires c κs = search rules
+weigh-x-requires : tie.Need-weigh-x-requires
+weigh-x-requires c κs = search rules
 
-ruling-requires : tie.Need-ruling-outcome-requires
-ruling-requires c κs = search rules
+ruling-outcome-requires : tie.Need-ruling-outcome-requires
+ruling-outcome-requires c κs = search rules
 
-granted-requires : tie.Need-granted-done-requires
-granted-requires c κs = search rules
+granted-done-requires : tie.Need-granted-done-requires
+granted-done-requires c κs = search rules
 
-enum_told : tie.Need-enum_told-1
-enum_told c = search rules
+enum_told-1 : tie.Need-enum_told-1
+enum_told-1 c = search rules
 
-enum-told-2 : tie.Need-enum_told-in-Zero
-enum-told-2 c = search rules
+enum_told-in-Zero : tie.Need-enum_told-in-Zero
+enum_told-in-Zero c = search rules
 
-zeroed-requires : tie.Need-zeroed-st-requires
-zeroed-requires c κs = search rules
+zeroed-st-requires : tie.Need-zeroed-st-requires
+zeroed-st-requires c κs = search rules
 
-enum-told-3 : tie.Need-enum_told-in-Tare
-enum-told-3 c = search rules
+enum_told-in-Tare : tie.Need-enum_told-in-Tare
+enum_told-in-Tare c = search rules
 
-tared-requires : tie.Need-tared-st-requires
-tared-requires c κs = search rules
+tared-st-requires : tie.Need-tared-st-requires
+tared-st-requires c κs = search rules
 
-enum-told-4 : tie.Need-enum_told-in-TareClear
-enum-told-4 c = search rules
+enum_told-in-TareClear : tie.Need-enum_told-in-TareClear
+enum_told-in-TareClear c = search rules
 
-tared-requires-2 : tie.Need-tared-st-requires-in-TareClear
-tared-requires-2 c κs = search rules
+tared-st-requires-in-TareClear : tie.Need-tared-st-requires-in-TareClear
+tared-st-requires-in-TareClear c κs = search rules
 
-enum-told-5 : tie.Need-enum_told-in-Start
-enum-told-5 c = search rules
+enum_told-in-Start : tie.Need-enum_told-in-Start
+enum_told-in-Start c = search rules
 
-start-sequence-requires : tie.Need-start_sequence-st-requires
-start-sequence-requires c κs = search rules
+start_sequence-st-requires : tie.Need-start_sequence-st-requires
+start_sequence-st-requires c κs = search rules
 
-enum-told-6 : tie.Need-enum_told-in-Stop
-enum-told-6 c = search rules
+enum_told-in-Stop : tie.Need-enum_told-in-Stop
+enum_told-in-Stop c = search rules
 
-is-idle-requires : tie.Need-is_idle-requires
-is-idle-requires c κs = search rules
+is_idle-requires : tie.Need-is_idle-requires
+is_idle-requires c κs = search rules
 
-stop-sequence-requires : tie.Need-stop_sequence-st-requires
-stop-sequence-requires c κs = search rules
+stop_sequence-st-requires : tie.Need-stop_sequence-st-requires
+stop_sequence-st-requires c κs = search rules
 
-latest-requires : tie.Need-latest-st-requires
-latest-requires c κs = search rules
+latest-st-requires : tie.Need-latest-st-requires
+latest-st-requires c κs = search rules
 
-none-waiting-requires : tie.Need-none_waiting-st-requires
-none-waiting-requires c κs = search rules
+none_waiting-st-requires : tie.Need-none_waiting-st-requires
+none_waiting-st-requires c κs = search rules
 
-enum-known-done : tie.Need-enum_known-done
-enum-known-done c = search rules
+enum_known-done : tie.Need-enum_known-done
+enum_known-done c = search rules
 
-is-idle-requires-2 : tie.Need-is_idle-requires-in-Set
-is-idle-requires-2 c κs = search rules
+is_idle-requires-in-Set : tie.Need-is_idle-requires-in-Set
+is_idle-requires-in-Set c κs = search rules
 
-waiting-for-requires : tie.Need-waiting_for-st-requires
-waiting-for-requires c κs = search rules
+waiting_for-st-requires : tie.Need-waiting_for-st-requires
+waiting_for-st-requires c κs = search rules
 
-enum-told-7 : tie.Need-enum_told-in-TotalClear
-enum-told-7 c = search rules
+enum_told-in-TotalClear : tie.Need-enum_told-in-TotalClear
+enum_told-in-TotalClear c = search rules
 
-clear-totals-requires : tie.Need-clear_totals-st-requires
-clear-totals-requires c κs = search rules
+clear_totals-st-requires : tie.Need-clear_totals-st-requires
+clear_totals-st-requires c κs = search rules
 
-enum-told-8 : tie.Need-enum_told-in-Undo
-enum-told-8 c = search rules
+enum_told-in-Undo : tie.Need-enum_told-in-Undo
+enum_told-in-Undo c = search rules
 
-take-back-requires : tie.Need-take_back-st-requires
-take-back-requires c κs = search rules
+take_back-st-requires : tie.Need-take_back-st-requires
+take_back-st-requires c κs = search rules
 
-enum-told-9 : tie.Need-enum_told-in-ShowGross
-enum-told-9 c = search rules
+enum_told-in-ShowGross : tie.Need-enum_told-in-ShowGross
+enum_told-in-ShowGross c = search rules
 
-enum-told-10 : tie.Need-enum_told-in-ShowNet
-enum-told-10 c = search rules
+enum_told-in-ShowNet : tie.Need-enum_told-in-ShowNet
+enum_told-in-ShowNet c = search rules
 
-enum-told-11 : tie.Need-enum_told-in-DayClose
-enum-told-11 c = search rules
+enum_told-in-DayClose : tie.Need-enum_told-in-DayClose
+enum_told-in-DayClose c = search rules
 
-closed-book-requires : tie.Need-closed_book-st-requires
-closed-book-requires c κs = search rules
+closed_book-st-requires : tie.Need-closed_book-st-requires
+closed_book-st-requires c κs = search rules
 
-enum-told-12 : tie.Need-enum_told-in-Discharge
-enum-told-12 c = search rules
+enum_told-in-Discharge : tie.Need-enum_told-in-Discharge
+enum_told-in-Discharge c = search rules
 
-discharge-sequence-requires : tie.Need-discharge_sequence-st-requires
-discharge-sequence-requires c κs = search rules
+discharge_sequence-st-requires : tie.Need-discharge_sequence-st-requires
+discharge_sequence-st-requires c κs = search rules
 
-weigh-requires-2 : tie.Need-weigh-served-requires
-weigh-requires-2 c κs = search rules
+weigh-served-requires : tie.Need-weigh-served-requires
+weigh-served-requires c κs = search rules
 
-is-idle-requires-3 : tie.Need-is_idle-idle-requires
-is-idle-requires-3 c κs = search rules
+is_idle-idle-requires : tie.Need-is_idle-idle-requires
+is_idle-idle-requires c κs = search rules
 
-tracked-requires : tie.Need-tracked-st-requires
-tracked-requires c κs = search rules
+tracked-st-requires : tie.Need-tracked-st-requires
+tracked-st-requires c κs = search rules
 
-compared-requires : tie.Need-compared-v-requires
-compared-requires c κs = search rules
+compared-v-requires : tie.Need-compared-v-requires
+compared-v-requires c κs = search rules
 
-is-fit-requires : tie.Need-is_fit-fit-requires
-is-fit-requires c κs = search rules
+is_fit-fit-requires : tie.Need-is_fit-fit-requires
+is_fit-fit-requires c κs = search rules
 
-advance-requires : tie.Need-advance-a-requires
-advance-requires c κs = search rules
+advance-a-requires : tie.Need-advance-a-requires
+advance-a-requires c κs = search rules
 
-is-idle-requires-4 : tie.Need-is_idle-requires-then-not-idle
-is-idle-requires-4 c κs = search rules
+is_idle-requires-then-not-idle : tie.Need-is_idle-requires-then-not-idle
+is_idle-requires-then-not-idle c κs = search rules
 
-booked-sequence-requires : tie.Need-booked_sequence-st-requires
-booked-sequence-requires c κs = search rules
+booked_sequence-st-requires : tie.Need-booked_sequence-st-requires
+booked_sequence-st-requires c κs = search rules
 
-booked-totals-requires : tie.Need-booked_totals-st-requires
-booked-totals-requires c κs = search rules
+booked_totals-st-requires : tie.Need-booked_totals-st-requires
+booked_totals-st-requires c κs = search rules
 
-latest-requires-2 : tie.Need-latest-st-requires-then-is_idle-2
-latest-requires-2 c κs = search rules
+latest-st-requires-then-is_idle-2 : tie.Need-latest-st-requires-then-is_idle-2
+latest-st-requires-then-is_idle-2 c κs = search rules
 
-none-waiting-requires-2 : tie.Need-none_waiting-st-requires-then-is_idle-2
-none-waiting-requires-2 c κs = search rules
+none_waiting-st-requires-then-is_idle-2 : tie.Need-none_waiting-st-requires-then-is_idle-2
+none_waiting-st-requires-then-is_idle-2 c κs = search rules
 
 outputs-requires : tie.Need-outputs-requires
 outputs-requires c κs = search rules
@@ -294,49 +294,49 @@ pub tick_spec : {M : Type 1} → statement M
 tick_spec =
     tie.close
     (tie.spec
-    raw_of-requires
-    steadied-requires
-    book-tick-requires
-    weigh-requires
-    ruling-requires
-    granted-requires
-    enum_told
-    enum-told-2
-    zeroed-requires
-    enum-told-3
-    tared-requires
-    enum-told-4
-    tared-requires-2
-    enum-told-5
-    start-sequence-requires
-    enum-told-6
-    is-idle-requires
-    stop-sequence-requires
-    latest-requires
-    none-waiting-requires
-    enum-known-done
-    is-idle-requires-2
-    waiting-for-requires
-    enum-told-7
-    clear-totals-requires
-    enum-told-8
-    take-back-requires
-    enum-told-9
-    enum-told-10
-    enum-told-11
-    closed-book-requires
-    enum-told-12
-    discharge-sequence-requires
-    weigh-requires-2
-    is-idle-requires-3
-    tracked-requires
-    compared-requires
-    is-fit-requires
-    advance-requires
-    is-idle-requires-4
-    booked-sequence-requires
-    booked-totals-requires
-    latest-requires-2
-    none-waiting-requires-2
+    raw_of-raw-requires
+    steadied-st-requires
+    book_tick-st-requires
+    weigh-x-requires
+    ruling-outcome-requires
+    granted-done-requires
+    enum_told-1
+    enum_told-in-Zero
+    zeroed-st-requires
+    enum_told-in-Tare
+    tared-st-requires
+    enum_told-in-TareClear
+    tared-st-requires-in-TareClear
+    enum_told-in-Start
+    start_sequence-st-requires
+    enum_told-in-Stop
+    is_idle-requires
+    stop_sequence-st-requires
+    latest-st-requires
+    none_waiting-st-requires
+    enum_known-done
+    is_idle-requires-in-Set
+    waiting_for-st-requires
+    enum_told-in-TotalClear
+    clear_totals-st-requires
+    enum_told-in-Undo
+    take_back-st-requires
+    enum_told-in-ShowGross
+    enum_told-in-ShowNet
+    enum_told-in-DayClose
+    closed_book-st-requires
+    enum_told-in-Discharge
+    discharge_sequence-st-requires
+    weigh-served-requires
+    is_idle-idle-requires
+    tracked-st-requires
+    compared-v-requires
+    is_fit-fit-requires
+    advance-a-requires
+    is_idle-requires-then-not-idle
+    booked_sequence-st-requires
+    booked_totals-st-requires
+    latest-st-requires-then-is_idle-2
+    none_waiting-st-requires-then-is_idle-2
     outputs-requires
     returns)

@@ -11,21 +11,21 @@ use Rattle.daybook.proofs.book_tick.Tie as tie
 enum_told : tie.Need-enum_told-1
 enum_told c = search rules
 
-counted-requires : tie.Need-counted-ticks-requires
-counted-requires c κs = search rules
+counted-ticks-requires : tie.Need-counted-ticks-requires
+counted-ticks-requires c κs = search rules
 
-enum-known-raw : tie.Need-enum_known-raw
-enum-known-raw c = search rules
+enum_known-raw : tie.Need-enum_known-raw
+enum_known-raw c = search rules
 
-good-tick-requires : tie.Need-good_tick-requires
-good-tick-requires c κs = search rules
+good_tick-requires : tie.Need-good_tick-requires
+good_tick-requires c κs = search rules
 
-returns : tie.Need-returns-in-Bad
+returns-in-Bad : tie.Need-returns-in-Bad
 unfolding book_of
-returns c = simp (c.counted-ticks.ensures, c.before.enum_told-1.given.1)
+returns-in-Bad c = simp (c.counted-ticks.ensures, c.before.enum_told-1.given.1)
 
-returns-2 : tie.Need-returns-in-Tenths
-returns-2 c =
+returns-in-Tenths : tie.Need-returns-in-Tenths
+returns-in-Tenths c =
     let g = c.before.before in
     let f : SFits w32 g.raw-1.given.0.0 = search sfits_of in
     simp (c.good_tick.ensures, to_z-of_z f, g.raw-1.given.1)
@@ -33,4 +33,4 @@ returns-2 c =
 pub book_tick_spec : {M : Type 1} → statement M
 book_tick_spec =
     tie.close
-    (tie.spec enum_told counted-requires enum-known-raw good-tick-requires returns returns-2)
+    (tie.spec enum_told counted-ticks-requires enum_known-raw good_tick-requires returns-in-Bad returns-in-Tenths)

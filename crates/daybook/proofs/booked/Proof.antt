@@ -63,17 +63,17 @@ change_2 c =
     let s = c.before.before.before in
     be (got c.difference-2.result c.difference-2.type-inv) (simp (c.difference-2.ensures, to_z-of_z s.ranges.to, to_z-of_z s.ranges.from))
 
-sub-if1 : tie.Need-overflow_sub-t-5
-sub-if1 c = search rules
+overflow_sub-t-5 : tie.Need-overflow_sub-t-5
+overflow_sub-t-5 c = search rules
 
 difference-requires : tie.Need-difference-requires
 difference-requires c κs = search rules
 
-add-result : tie.Need-overflow_add-result
-add-result c = add_need (arg c.before.before.before.ranges.sum) (change c) (plain_fits c.before)
+overflow_add-result : tie.Need-overflow_add-result
+overflow_add-result c = add_need (arg c.before.before.before.ranges.sum) (change c) (plain_fits c.before)
 
-returns : tie.Need-returns-then-sum-lt-BOOK_PLAIN
-returns c =
+returns-then-sum-lt-BOOK_PLAIN : tie.Need-returns-then-sum-lt-BOOK_PLAIN
+returns-then-sum-lt-BOOK_PLAIN c =
     let s = c.before.before.before in
     (add (arg s.ranges.sum) (change c) (plain_fits c.before)).read
     ∙ sym (booked_plain s.args.sum (change_of s) (sum_small c.before) (change_small s))
@@ -84,15 +84,15 @@ limited-requires c κs = search rules
 difference-requires-2 : tie.Need-difference-requires-2
 difference-requires-2 c κs = search rules
 
-add-limited : tie.Need-overflow_add-limited
-add-limited c = add_need (stopped c.before) (change_2 c) (total_fits c.before.before.before)
+overflow_add-limited : tie.Need-overflow_add-limited
+overflow_add-limited c = add_need (stopped c.before) (change_2 c) (total_fits c.before.before.before)
 
 limited-requires-2 : tie.Need-limited-requires-2
 limited-requires-2 c κs = search rules
 
-returns-2 : tie.Need-returns
+returns : tie.Need-returns
 unfolding limit_of booked_of
-returns-2 c =
+returns c =
     let d = c.before in
     (got c.limited-2.result c.limited-2.type-inv).read
     ∙ c.limited-2.ensures
@@ -102,12 +102,12 @@ pub booked_spec : {M : Type 1} → statement M
 booked_spec =
     tie.close
     (tie.spec
-    sub-if1
+    overflow_sub-t-5
     difference-requires
-    add-result
-    returns
+    overflow_add-result
+    returns-then-sum-lt-BOOK_PLAIN
     limited-requires
     difference-requires-2
-    add-limited
+    overflow_add-limited
     limited-requires-2
-    returns-2)
+    returns)

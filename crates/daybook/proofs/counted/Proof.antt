@@ -9,21 +9,21 @@ use Rattle.outline.specs.Limits.{day_ticks}
 use Rattle.daybook.proofs.counted.Statement.{statement}
 use Rattle.daybook.proofs.counted.Tie as tie
 
-is-in-day-requires : tie.Need-is_in_day-requires
-is-in-day-requires c κs = search rules
+is_in_day-requires : tie.Need-is_in_day-requires
+is_in_day-requires c κs = search rules
 
-add-result : tie.Need-overflow_add-result
-add-result c =
+overflow_add-result : tie.Need-overflow_add-result
+overflow_add-result c =
     let t = c.before in
     fits_of (omega (arith, ltb-true t.before.before.args.b.ticks day_ticks (sym t.before.is_in_day.ensures ∙ t.if-is_in_day.true)))
 
-returns : tie.Need-returns-then-is_in_day
-returns c =
+returns-then-is_in_day : tie.Need-returns-then-is_in_day
+returns-then-is_in_day c =
     let t = c.before in
     simp (sym t.before.is_in_day.ensures ∙ t.if-is_in_day.true, add-one)
 
-returns-2 : tie.Need-returns-else-is_in_day
-returns-2 c = simp (sym c.before.is_in_day.ensures ∙ c.if-is_in_day.false)
+returns-else-is_in_day : tie.Need-returns-else-is_in_day
+returns-else-is_in_day c = simp (sym c.before.is_in_day.ensures ∙ c.if-is_in_day.false)
 
 pub counted_spec : {M : Type 1} → statement M
-counted_spec = tie.close (tie.spec is-in-day-requires add-result returns returns-2)
+counted_spec = tie.close (tie.spec is_in_day-requires overflow_add-result returns-then-is_in_day returns-else-is_in_day)

@@ -5,21 +5,21 @@ use Rattle.outline.specs.DayBook.{book_of}
 use Rattle.daybook.proofs.good_tick.Statement.{statement}
 use Rattle.daybook.proofs.good_tick.Tie as tie
 
-later-good-requires : tie.Need-later_good-requires
-later-good-requires c κs = search rules
+later_good-requires : tie.Need-later_good-requires
+later_good-requires c κs = search rules
 
-returns : tie.Need-returns-then-b
+returns-then-b : tie.Need-returns-then-b
 unfolding book_of
-returns c = simp (c.later_good.ensures, to_z-of_z c.before.before.ranges.raw, c.before.if-b.true)
+returns-then-b c = simp (c.later_good.ensures, to_z-of_z c.before.before.ranges.raw, c.before.if-b.true)
 
-counted-requires : tie.Need-counted-ticks-requires
-counted-requires c κs = search rules
+counted-ticks-requires : tie.Need-counted-ticks-requires
+counted-ticks-requires c κs = search rules
 
-returns-2 : tie.Need-returns
+returns : tie.Need-returns
 unfolding book_of
-returns-2 c =
+returns c =
     let e = c.before in
     simp (to_z-of_z e.before.ranges.raw, c.counted-ticks.ensures, e.if-b.false)
 
 pub good_tick_spec : {M : Type 1} → statement M
-good_tick_spec = tie.close (tie.spec later-good-requires returns counted-requires returns-2)
+good_tick_spec = tie.close (tie.spec later_good-requires returns-then-b counted-ticks-requires returns)

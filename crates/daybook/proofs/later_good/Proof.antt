@@ -59,19 +59,19 @@ module _ (b : Book) (raw : ℤ) (contact : Bool) where
   unfolding later_good
   unbook h = simp h
 
-is-in-day-requires : tie.Need-is_in_day-requires
-is-in-day-requires c κs = search rules
+is_in_day-requires : tie.Need-is_in_day-requires
+is_in_day-requires c κs = search rules
 
-add-b : tie.Need-overflow_add-b
-add-b c =
+overflow_add-b : tie.Need-overflow_add-b
+overflow_add-b c =
     let t = c.before in
     fits_of (omega (arith, ltb-true (entry t.before).args.b.ticks day_ticks (in_day_lem t)))
 
 booked-requires : tie.Need-booked-requires
 booked-requires c κs = search rules
 
-returns : tie.Need-returns-then-refill
-returns c =
+returns-then-refill : tie.Need-returns-then-refill
+returns-then-refill c =
     let d = c.before.before in
     let t = d.before.before in
     let s = entry t.before in
@@ -81,11 +81,11 @@ returns c =
     c.booked.ensures ∙ (λ i. booked_of (to_z-of_z (refilled_fits s) i) (new i -ℤ to_z-of_z (last_fits s) i)) in
     (λ i. refilled_by b s.args.contact (new i) (sum i)) ∙ refill b s.args.raw s.args.contact (in_day_lem t) d.if-refill.true
 
-booked-requires-2 : tie.Need-booked-requires-then-is_in_day
-booked-requires-2 c κs = search rules
+booked-requires-then-is_in_day : tie.Need-booked-requires-then-is_in_day
+booked-requires-then-is_in_day c κs = search rules
 
-returns-2 : tie.Need-returns-then-is_in_day
-returns-2 c =
+returns-then-is_in_day : tie.Need-returns-then-is_in_day
+returns-then-is_in_day c =
     let d = c.before.before in
     let t = d.before.before in
     let s = entry t.before in
@@ -95,11 +95,11 @@ returns-2 c =
     c.booked-then-is_in_day.ensures ∙ (λ i. booked_of (to_z-of_z (used_fits s) i) (to_z-of_z (last_fits s) i -ℤ new i)) in
     (λ i. used_by b s.args.contact (new i) (sum i)) ∙ use_up b s.args.raw s.args.contact (in_day_lem t) d.if-refill.false
 
-booked-requires-3 : tie.Need-booked-requires-2
-booked-requires-3 c κs = search rules
+booked-requires-2 : tie.Need-booked-requires-2
+booked-requires-2 c κs = search rules
 
-returns-3 : tie.Need-returns
-returns-3 c =
+returns : tie.Need-returns
+returns c =
     let t = c.before.before in
     let d = t.before in
     let s = entry d in
@@ -113,11 +113,11 @@ pub later_good_spec : {M : Type 1} → statement M
 later_good_spec =
     tie.close
     (tie.spec
-    is-in-day-requires
-    add-b
+    is_in_day-requires
+    overflow_add-b
     booked-requires
-    returns
+    returns-then-refill
+    booked-requires-then-is_in_day
+    returns-then-is_in_day
     booked-requires-2
-    returns-2
-    booked-requires-3
-    returns-3)
+    returns)

@@ -3,11 +3,11 @@ use borrow.Author.Tests.{eq-eqb, ne_eqb}
 use Rattle.logs.proofs.is_contact.Statement.{statement}
 use Rattle.logs.proofs.is_contact.Tie as tie
 
-returns : tie.Need-returns-then-b-eq-OPEN
-returns c = simp (eq-eqb _ _ c.if-b-eq-OPEN.true)
+returns-then-b-eq-OPEN : tie.Need-returns-then-b-eq-OPEN
+returns-then-b-eq-OPEN c = simp (eq-eqb _ _ c.if-b-eq-OPEN.true)
 
-returns-2 : tie.Need-returns-else-b-eq-OPEN
-returns-2 c = simp (ne_eqb _ _ c.if-b-eq-OPEN.false)
+returns-else-b-eq-OPEN : tie.Need-returns-else-b-eq-OPEN
+returns-else-b-eq-OPEN c = simp (ne_eqb _ _ c.if-b-eq-OPEN.false)
 
 pub is_contact_spec : {M : Type 1} → statement M
-is_contact_spec = tie.close (tie.spec returns returns-2)
+is_contact_spec = tie.close (tie.spec returns-then-b-eq-OPEN returns-else-b-eq-OPEN)

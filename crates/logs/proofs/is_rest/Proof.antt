@@ -6,32 +6,32 @@ use Rattle.logs.proofs.RestLaws.{too_short, too_long, no_first_space, no_last_sp
 use Rattle.logs.proofs.is_rest.Statement.{statement}
 use Rattle.logs.proofs.is_rest.Tie as tie
 
-returns : tie.Need-returns-then-rest-le-GAP
-returns c = too_short c.before.before.args.rest.now 0 (omega (arith, c.if-rest-le-GAP.true))
+returns-then-rest-le-GAP : tie.Need-returns-then-rest-le-GAP
+returns-then-rest-le-GAP c = too_short c.before.before.args.rest.now 0 (omega (arith, c.if-rest-le-GAP.true))
 
-returns-2 : tie.Need-returns-then-rest-gt-REST_LIMIT
-returns-2 c = too_long c.before.before.before.args.rest.now 0 (omega (arith, c.if-rest-gt-REST_LIMIT.true))
+returns-then-rest-gt-REST_LIMIT : tie.Need-returns-then-rest-gt-REST_LIMIT
+returns-then-rest-gt-REST_LIMIT c = too_long c.before.before.before.args.rest.now 0 (omega (arith, c.if-rest-gt-REST_LIMIT.true))
 
-byte-at-requires : tie.Need-byte_at-requires
-byte-at-requires c κs = tt
+byte_at-requires : tie.Need-byte_at-requires
+byte_at-requires c κs = tt
 
-returns-3 : tie.Need-returns-then-byte_at-ne-SPACE
-returns-3 c = no_first_space c.before.before.before.before.before.args.rest.now 0 _ c.before.byte_at.ensures c.if-byte_at-ne-SPACE.true
+returns-then-byte_at-ne-SPACE : tie.Need-returns-then-byte_at-ne-SPACE
+returns-then-byte_at-ne-SPACE c = no_first_space c.before.before.before.before.before.args.rest.now 0 _ c.before.byte_at.ensures c.if-byte_at-ne-SPACE.true
 
-byte-at-requires-2 : tie.Need-byte_at-requires-2
-byte-at-requires-2 c κs = tt
+byte_at-requires-2 : tie.Need-byte_at-requires-2
+byte_at-requires-2 c κs = tt
 
-returns-4 : tie.Need-returns-then-byte_at-ne-SPACE-2
-returns-4 c = no_last_space c.before.before.before.before.before.before.before.args.rest.now 0 _ c.before.byte_at-2.ensures c.if-byte_at-ne-SPACE-2.true
+returns-then-byte_at-ne-SPACE-2 : tie.Need-returns-then-byte_at-ne-SPACE-2
+returns-then-byte_at-ne-SPACE-2 c = no_last_space c.before.before.before.before.before.before.before.args.rest.now 0 _ c.before.byte_at-2.ensures c.if-byte_at-ne-SPACE-2.true
 
-byte-at-requires-3 : tie.Need-byte_at-requires-3
-byte-at-requires-3 c κs = tt
+byte_at-requires-3 : tie.Need-byte_at-requires-3
+byte_at-requires-3 c κs = tt
 
-is-contact-requires : tie.Need-is_contact-requires
-is-contact-requires c κs = tt
+is_contact-requires : tie.Need-is_contact-requires
+is_contact-requires c κs = tt
 
-returns-5 : tie.Need-returns
-returns-5 c =
+returns : tie.Need-returns
+returns c =
     let last = c.before.before in
     let first = last.before.before in
     let few = first.before.before in
@@ -45,12 +45,12 @@ pub is_rest_spec : {M : Type 1} → statement M
 is_rest_spec =
     tie.close
     (tie.spec
-    returns
-    returns-2
-    byte-at-requires
-    returns-3
-    byte-at-requires-2
-    returns-4
-    byte-at-requires-3
-    is-contact-requires
-    returns-5)
+    returns-then-rest-le-GAP
+    returns-then-rest-gt-REST_LIMIT
+    byte_at-requires
+    returns-then-byte_at-ne-SPACE
+    byte_at-requires-2
+    returns-then-byte_at-ne-SPACE-2
+    byte_at-requires-3
+    is_contact-requires
+    returns)

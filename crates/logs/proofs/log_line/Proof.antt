@@ -30,44 +30,44 @@ module _ (c : tie.After-is_rest) where
   tested : c.is_rest.result ≡ is_rest L At
   tested = c.is_rest.ensures ∙ rest_moved L At rest
 
-number-at-requires : tie.Need-number_at-requires
-number-at-requires c κs = tt
+number_at-requires : tie.Need-number_at-requires
+number_at-requires c κs = tt
 
-enum-known-count : tie.Need-enum_known-count
-enum-known-count c = search rules
+enum_known-count : tie.Need-enum_known-count
+enum_known-count c = search rules
 
 enum_told : tie.Need-enum_told-1
 enum_told c = search rules
 
-returns : tie.Need-returns-in_default
+returns-in_default : tie.Need-returns-in_default
 unfolding log_line_of
-returns c = simp (sym c.before.before.number_at.ensures ∙ c.enum_told-1.given.1)
+returns-in_default c = simp (sym c.before.before.number_at.ensures ∙ c.enum_told-1.given.1)
 
-part-requires : tie.Need-part-rest-requires
-part-requires c κs = tt
+part-rest-requires : tie.Need-part-rest-requires
+part-rest-requires c κs = tt
 
-is-rest-requires : tie.Need-is_rest-requires
-is-rest-requires c κs = tt
+is_rest-requires : tie.Need-is_rest-requires
+is_rest-requires c κs = tt
 
-byte-at-requires : tie.Need-byte_at-contact-requires
-byte-at-requires c κs = tt
+byte_at-contact-requires : tie.Need-byte_at-contact-requires
+byte_at-contact-requires c κs = tt
 
-add-request : tie.Need-overflow_add-request
-add-request c =
+overflow_add-request : tie.Need-overflow_add-request
+overflow_add-request c =
     let t = c.before.before in
     omega (arith, rest_placed (L t) (At t) (sym (tested t) ∙ c.before.if-is_rest.true))
 
-returns-2 : tie.Need-returns-then-is_rest
+returns-then-is_rest : tie.Need-returns-then-is_rest
 unfolding log_line_of
-returns-2 c =
+returns-then-is_rest c =
     let t = c.before.before in
     let g = t.before.before.before in
     let f : SFits w32 g.count-1.given.0.0 = search sfits_of in
     simp (to_z-of_z f, sym g.before.before.number_at.ensures ∙ g.count-1.given.1, ← tested t, c.before.if-is_rest.true, c.byte_at-contact.ensures ∙ byte_moved (L t) (At t) (rest t) 1)
 
-returns-3 : tie.Need-returns
+returns : tie.Need-returns
 unfolding log_line_of
-returns-3 c =
+returns c =
     let t = c.before in
     let g = t.before.before.before in
     simp (sym g.before.before.number_at.ensures ∙ g.count-1.given.1, ← tested t, c.if-is_rest.false)
@@ -76,13 +76,13 @@ pub log_line_spec : {M : Type 1} → statement M
 log_line_spec =
     tie.close
     (tie.spec
-    number-at-requires
-    enum-known-count
+    number_at-requires
+    enum_known-count
     enum_told
-    returns
-    part-requires
-    is-rest-requires
-    byte-at-requires
-    add-request
-    returns-2
-    returns-3)
+    returns-in_default
+    part-rest-requires
+    is_rest-requires
+    byte_at-contact-requires
+    overflow_add-request
+    returns-then-is_rest
+    returns)

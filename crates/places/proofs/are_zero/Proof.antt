@@ -14,43 +14,43 @@ use Rattle.places.proofs.are_zero.Statement.{statement}
 use Rattle.places.proofs.are_zero.Tie as tie
 use Rattle.places.proofs.are_zero.Reads as reads
 
-abbrev invariant_loop : tie.invariant_loop
+abbrev invariant_loop : tie.invariant-loop-i
 invariant_loop s at n a len end zero₀ i₀ zero i = (i ≤ end) × (zero ≡ zeros_at i at s)
 
-abbrev decreases_loop : tie.decreases_loop
+abbrev decreases_loop : tie.decreases-loop-i
 decreases_loop s at n a len end zero₀ i₀ zero i = end - i
 
-returns : tie.Need-returns-then-len-a invariant_loop decreases_loop
+returns-then-len-a : tie.Need-returns-then-len-a invariant_loop decreases_loop
 unfolding zeros_at
-returns c =
+returns-then-len-a c =
     let a = c.before.before.args in
     nothing_there a.s.now a.at a.n c.if-len-a.true
 
-sub-least : tie.Need-overflow_sub-len invariant_loop decreases_loop
-sub-least c = omega (arith, c.if-len-a.false)
+overflow_sub-len : tie.Need-overflow_sub-len invariant_loop decreases_loop
+overflow_sub-len c = omega (arith, c.if-len-a.false)
 
-least-requires : tie.Need-least-end-requires invariant_loop decreases_loop
-least-requires c κs = search rules
+least-end-requires : tie.Need-least-end-requires invariant_loop decreases_loop
+least-end-requires c κs = search rules
 
-loop-holds : tie.Need-loop-i-init invariant_loop decreases_loop
+loop-i-init : tie.Need-loop-i-init invariant_loop decreases_loop
 unfolding zeros_at
-loop-holds c = (zero-le, refl)
+loop-i-init c = (zero-le, refl)
 
-add-zero : tie.Need-overflow_add-zero invariant_loop decreases_loop
-add-zero c = omega (arith, c.loop-i-test.true, c.before.before.least-end.ensures)
+overflow_add-zero : tie.Need-overflow_add-zero invariant_loop decreases_loop
+overflow_add-zero c = omega (arith, c.loop-i-test.true, c.before.before.least-end.ensures)
 
-shared-slice-read-zero : tie.Need-bounds-s-a invariant_loop decreases_loop
-shared-slice-read-zero c = omega (arith, c.before.loop-i-test.true, c.before.before.before.least-end.ensures, c.before.before.before.before.if-len-a.false)
+bounds-s-a : tie.Need-bounds-s-a invariant_loop decreases_loop
+bounds-s-a c = omega (arith, c.before.loop-i-test.true, c.before.before.before.least-end.ensures, c.before.before.before.before.if-len-a.false)
 
-add-i : tie.Need-overflow_step-i invariant_loop decreases_loop
-add-i c = omega arith
+overflow_step-i : tie.Need-overflow_step-i invariant_loop decreases_loop
+overflow_step-i c = omega arith
 
-loop-less : tie.Need-loop-i-smaller invariant_loop decreases_loop
-loop-less c = omega arith
+loop-i-smaller : tie.Need-loop-i-smaller invariant_loop decreases_loop
+loop-i-smaller c = omega arith
 
-loop-again : tie.Need-loop-i-preserved invariant_loop decreases_loop
+loop-i-preserved : tie.Need-loop-i-preserved invariant_loop decreases_loop
 unfolding zeros_at
-loop-again c =
+loop-i-preserved c =
     let l = c.before.before in
     let a = l.before.before.before.before.args in
     let i = l.loop-i.i in (
@@ -58,8 +58,8 @@ loop-again c =
       ap (λ (z : Bool). z && eqb (get_or a.s.now (a.at + i) 0) 0) l.loop-i.invariant.1 ∙ ap (λ (n : ℕ). zeros_at n a.at a.s.now) (sym (add-one i)),
     )
 
-returns-2 : tie.Need-returns invariant_loop decreases_loop
-returns-2 c =
+returns : tie.Need-returns invariant_loop decreases_loop
+returns c =
     let l = c.before in
     let b = l.before.before in
     let a = b.before.before.args in
@@ -73,13 +73,13 @@ are_zero_spec =
     (tie.spec
     invariant_loop
     decreases_loop
-    returns
-    sub-least
-    least-requires
-    loop-holds
-    add-zero
-    shared-slice-read-zero
-    add-i
-    loop-less
-    loop-again
-    returns-2)
+    returns-then-len-a
+    overflow_sub-len
+    least-end-requires
+    loop-i-init
+    overflow_add-zero
+    bounds-s-a
+    overflow_step-i
+    loop-i-smaller
+    loop-i-preserved
+    returns)

@@ -11,26 +11,26 @@ use native.Mathlib.Omega.{arith}
 use Rattle.places.proofs.clear.Statement.{statement}
 use Rattle.places.proofs.clear.Tie as tie
 
-abbrev invariant_loop : tie.invariant_loop
+abbrev invariant_loop : tie.invariant-loop-i
 invariant_loop s₀ i₀ i-end s i = (i ≤ i-end) × (s ≡ replicate i 0 ++ drop i s₀) × (length s ≡ length s₀)
 
-abbrev decreases_loop : tie.decreases_loop
+abbrev decreases_loop : tie.decreases-loop-i
 decreases_loop s₀ i₀ i-end s i = i-end - i
 
-loop-holds : tie.Need-loop-i-init invariant_loop decreases_loop
-loop-holds c = (zero-le, refl, refl)
+loop-i-init : tie.Need-loop-i-init invariant_loop decreases_loop
+loop-i-init c = (zero-le, refl, refl)
 
-slice-write-s : tie.Need-bounds-s-i invariant_loop decreases_loop
-slice-write-s c = omega arith
+bounds-s-i : tie.Need-bounds-s-i invariant_loop decreases_loop
+bounds-s-i c = omega arith
 
-add-i : tie.Need-overflow_step-i invariant_loop decreases_loop
-add-i c = omega arith
+overflow_step-i : tie.Need-overflow_step-i invariant_loop decreases_loop
+overflow_step-i c = omega arith
 
-loop-less : tie.Need-loop-i-smaller invariant_loop decreases_loop
-loop-less c = omega arith
+loop-i-smaller : tie.Need-loop-i-smaller invariant_loop decreases_loop
+loop-i-smaller c = omega arith
 
-loop-again : tie.Need-loop-i-preserved invariant_loop decreases_loop
-loop-again c =
+loop-i-preserved : tie.Need-loop-i-preserved invariant_loop decreases_loop
+loop-i-preserved c =
     let at-loop = c.before in
     let i = at-loop.loop-i.i in (
       add-one-le c.loop-i-test.true,
@@ -38,8 +38,8 @@ loop-again c =
       length-set at-loop.loop-i.s i 0 ∙ at-loop.loop-i.invariant.2,
     )
 
-same_length : tie.Need-shape_of-s invariant_loop decreases_loop
-same_length c = c.before.loop-i.invariant.2
+shape_of-s : tie.Need-shape_of-s invariant_loop decreases_loop
+shape_of-s c = c.before.loop-i.invariant.2
 
 returns : tie.Need-returns invariant_loop decreases_loop
 returns c =
@@ -50,4 +50,4 @@ returns c =
     ∙ append-nil (replicate (length s₀) 0)
 
 pub clear_spec : {M : Type 1} → statement M
-clear_spec = tie.close (tie.spec invariant_loop decreases_loop loop-holds slice-write-s add-i loop-less loop-again same_length returns)
+clear_spec = tie.close (tie.spec invariant_loop decreases_loop loop-i-init bounds-s-i overflow_step-i loop-i-smaller loop-i-preserved shape_of-s returns)

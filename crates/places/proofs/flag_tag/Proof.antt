@@ -3,13 +3,13 @@ use Rattle.places.specs.Places.{flag_tag}
 use Rattle.places.proofs.flag_tag.Statement.{statement}
 use Rattle.places.proofs.flag_tag.Tie as tie
 
-returns : tie.Need-returns-then-b
+returns-then-b : tie.Need-returns-then-b
 unfolding flag_tag
-returns c = simp c.if-b.true
+returns-then-b c = simp c.if-b.true
 
-returns-2 : tie.Need-returns
+returns : tie.Need-returns
 unfolding flag_tag
-returns-2 c = simp c.if-b.false
+returns c = simp c.if-b.false
 
 pub flag_tag_spec : {M : Type 1} → statement M
-flag_tag_spec = tie.close (tie.spec returns returns-2)
+flag_tag_spec = tie.close (tie.spec returns-then-b returns)

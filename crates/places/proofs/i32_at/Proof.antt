@@ -7,14 +7,14 @@ use Rattle.places.specs.Places.{signed}
 use Rattle.places.proofs.i32_at.Statement.{statement}
 use Rattle.places.proofs.i32_at.Tie as tie
 
-u32-at-requires : tie.Need-u32_at-requires
-u32-at-requires c κs = search rules
+u32_at-requires : tie.Need-u32_at-requires
+u32_at-requires c κs = search rules
 
-to-i32-requires : tie.Need-to_i32-requires
-to-i32-requires c κs = search rules
+to_i32-requires : tie.Need-to_i32-requires
+to_i32-requires c κs = search rules
 
 returns : tie.Need-returns
 returns c = to_z-of_z w32 _ (record { sfits = c.to_i32.type-inv }) ∙ c.to_i32.ensures ∙ ap (signed w32) c.before.u32_at.ensures
 
 pub i32_at_spec : {M : Type 1} → statement M
-i32_at_spec = tie.close (tie.spec u32-at-requires to-i32-requires returns)
+i32_at_spec = tie.close (tie.spec u32_at-requires to_i32-requires returns)

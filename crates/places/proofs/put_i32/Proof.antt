@@ -8,14 +8,14 @@ use Rattle.places.specs.Places.{put_be, coded}
 use Rattle.places.proofs.put_i32.Statement.{statement}
 use Rattle.places.proofs.put_i32.Tie as tie
 
-of-i32-requires : tie.Need-of_i32-requires
-of-i32-requires c κs = search rules
+of_i32-requires : tie.Need-of_i32-requires
+of_i32-requires c κs = search rules
 
-put-u32-requires : tie.Need-put_u32-requires
-put-u32-requires c κs = search rules
+put_u32-requires : tie.Need-put_u32-requires
+put_u32-requires c κs = search rules
 
-same_length : tie.Need-shape_of-s
-same_length c = search rules
+shape_of-s : tie.Need-shape_of-s
+shape_of-s c = search rules
 
 returns : tie.Need-returns
 returns c =
@@ -23,4 +23,4 @@ returns c =
     c.before.before.put_u32.ensures ∙ ap (λ (x : ℕ). put_be 4 x a.args.s-1.now a.args.at) (c.before.before.before.of_i32.ensures ∙ ap (coded w32) (to_z-of_z w32 a.args.v a.ranges.v))
 
 pub put_i32_spec : {M : Type 1} → statement M
-put_i32_spec = tie.close (tie.spec of-i32-requires put-u32-requires same_length returns)
+put_i32_spec = tie.close (tie.spec of_i32-requires put_u32-requires shape_of-s returns)

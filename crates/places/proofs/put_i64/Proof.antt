@@ -8,14 +8,14 @@ use Rattle.places.specs.Places.{put_be, coded}
 use Rattle.places.proofs.put_i64.Statement.{statement}
 use Rattle.places.proofs.put_i64.Tie as tie
 
-of-i64-requires : tie.Need-of_i64-requires
-of-i64-requires c κs = search rules
+of_i64-requires : tie.Need-of_i64-requires
+of_i64-requires c κs = search rules
 
-put-u64-requires : tie.Need-put_u64-requires
-put-u64-requires c κs = search rules
+put_u64-requires : tie.Need-put_u64-requires
+put_u64-requires c κs = search rules
 
-same_length : tie.Need-shape_of-s
-same_length c = search rules
+shape_of-s : tie.Need-shape_of-s
+shape_of-s c = search rules
 
 returns : tie.Need-returns
 returns c =
@@ -23,4 +23,4 @@ returns c =
     c.before.before.put_u64.ensures ∙ ap (λ (x : ℕ). put_be 8 x a.args.s-1.now a.args.at) (c.before.before.before.of_i64.ensures ∙ ap (coded w64) (to_z-of_z w64 a.args.v a.ranges.v))
 
 pub put_i64_spec : {M : Type 1} → statement M
-put_i64_spec = tie.close (tie.spec of-i64-requires put-u64-requires same_length returns)
+put_i64_spec = tie.close (tie.spec of_i64-requires put_u64-requires shape_of-s returns)

@@ -8,23 +8,23 @@ use Rattle.places.proofs.Numbers.{put_mod, put_add}
 use Rattle.places.proofs.put_u64.Statement.{statement}
 use Rattle.places.proofs.put_u64.Tie as tie
 
-cast-put-u32 : tie.Need-overflow_cast-v
-cast-put-u32 c = search rules
+overflow_cast-v : tie.Need-overflow_cast-v
+overflow_cast-v c = search rules
 
-put-u32-requires : tie.Need-put_u32-requires
-put-u32-requires c κs = search rules
+put_u32-requires : tie.Need-put_u32-requires
+put_u32-requires c κs = search rules
 
-add-put-u32 : tie.Need-overflow_add-a
-add-put-u32 c = search rules
+overflow_add-a : tie.Need-overflow_add-a
+overflow_add-a c = search rules
 
-cast-put-u32-2 : tie.Need-overflow_cast-v-2
-cast-put-u32-2 c = search rules
+overflow_cast-v-2 : tie.Need-overflow_cast-v-2
+overflow_cast-v-2 c = search rules
 
-put-u32-requires-2 : tie.Need-put_u32-requires-2
-put-u32-requires-2 c κs = search rules
+put_u32-requires-2 : tie.Need-put_u32-requires-2
+put_u32-requires-2 c κs = search rules
 
-same_length : tie.Need-shape_of-s
-same_length c = search rules
+shape_of-s : tie.Need-shape_of-s
+shape_of-s c = search rules
 
 returns : tie.Need-returns
 returns c =
@@ -40,10 +40,10 @@ pub put_u64_spec : {M : Type 1} → statement M
 put_u64_spec =
     tie.close
     (tie.spec
-    cast-put-u32
-    put-u32-requires
-    add-put-u32
-    cast-put-u32-2
-    put-u32-requires-2
-    same_length
+    overflow_cast-v
+    put_u32-requires
+    overflow_add-a
+    overflow_cast-v-2
+    put_u32-requires-2
+    shape_of-s
     returns)

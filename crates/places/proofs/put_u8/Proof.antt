@@ -9,11 +9,11 @@ use Rattle.places.specs.Places.{put_be}
 use Rattle.places.proofs.put_u8.Statement.{statement}
 use Rattle.places.proofs.put_u8.Tie as tie
 
-put-byte-requires : tie.Need-put_byte-requires
-put-byte-requires c κs = search rules
+put_byte-requires : tie.Need-put_byte-requires
+put_byte-requires c κs = search rules
 
-same_length : tie.Need-shape_of-s
-same_length c = search rules
+shape_of-s : tie.Need-shape_of-s
+shape_of-s c = search rules
 
 returns : tie.Need-returns
 unfolding put_be
@@ -22,4 +22,4 @@ returns c =
     c.before.before.put_byte.ensures ∙ ap (λ (x : ℕ). set a.args.s-1.now a.args.at x) (sym (mod-eq_of_lt a.ranges.v.fits)) ∙ simp add-zero
 
 pub put_u8_spec : {M : Type 1} → statement M
-put_u8_spec = tie.close (tie.spec put-byte-requires same_length returns)
+put_u8_spec = tie.close (tie.spec put_byte-requires shape_of-s returns)

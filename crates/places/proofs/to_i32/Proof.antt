@@ -18,28 +18,28 @@ small c = omega arith
 is : (c : tie.Else-u-lt2147483648) → negsuc 0 -ℤ to_z w32 (4294967295 - c.before.args.u) ≡ negsuc (4294967295 - c.before.args.u)
 is c = ap (λ (z : ℤ). negsuc 0 -ℤ z) (to_z_pos w32 (4294967295 - c.before.args.u) (small c)) ∙ minus_one (4294967295 - c.before.args.u)
 
-cast-result : tie.Need-overflow_cast-result
-cast-result c = search rules
+overflow_cast-result : tie.Need-overflow_cast-result
+overflow_cast-result c = search rules
 
-sub-result : tie.Need-overflow_sub-result
-sub-result c = search rules
+overflow_sub-result : tie.Need-overflow_sub-result
+overflow_sub-result c = search rules
 
-cast-result-2 : tie.Need-overflow_cast-result-else-u-lt2147483648
-cast-result-2 c = search rules
+overflow_cast-result-else-u-lt2147483648 : tie.Need-overflow_cast-result-else-u-lt2147483648
+overflow_cast-result-else-u-lt2147483648 c = search rules
 
-sub-result-2 : tie.Need-overflow_sub-result-else-u-lt2147483648
-sub-result-2 c = subst⁻¹ (SFits w32) (is c) (record { sfits = small c })
+overflow_sub-result-else-u-lt2147483648 : tie.Need-overflow_sub-result-else-u-lt2147483648
+overflow_sub-result-else-u-lt2147483648 c = subst⁻¹ (SFits w32) (is c) (record { sfits = small c })
 
-returns : tie.Need-returns-then-u-lt2147483648
+returns-then-u-lt2147483648 : tie.Need-returns-then-u-lt2147483648
 unfolding signed
-returns c = search rules
+returns-then-u-lt2147483648 c = search rules
 
-returns-2 : tie.Need-returns-else-u-lt2147483648
-returns-2 c =
+returns-else-u-lt2147483648 : tie.Need-returns-else-u-lt2147483648
+returns-else-u-lt2147483648 c =
     ap (λ (z : ℤ). to_z w32 (of_z w32 z)) (is c)
     ∙ to_z-of_z w32 (negsuc (4294967295 - c.before.args.u)) (record { sfits = small c })
     ∙ sym (signed_high w32 c.before.args.u c.if-u-lt2147483648.false)
 
 pub to_i32_spec : {M : Type 1} → statement M
 to_i32_spec =
-    tie.close (tie.spec cast-result sub-result cast-result-2 sub-result-2 returns returns-2)
+    tie.close (tie.spec overflow_cast-result overflow_sub-result overflow_cast-result-else-u-lt2147483648 overflow_sub-result-else-u-lt2147483648 returns-then-u-lt2147483648 returns-else-u-lt2147483648)

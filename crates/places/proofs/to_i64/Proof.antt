@@ -18,28 +18,28 @@ small c = omega arith
 is : (c : tie.Else-u-lt9223372036854775808) → negsuc 0 -ℤ to_z w64 (18446744073709551615 - c.before.args.u) ≡ negsuc (18446744073709551615 - c.before.args.u)
 is c = ap (λ (z : ℤ). negsuc 0 -ℤ z) (to_z_pos w64 (18446744073709551615 - c.before.args.u) (small c)) ∙ minus_one (18446744073709551615 - c.before.args.u)
 
-cast-result : tie.Need-overflow_cast-result
-cast-result c = search rules
+overflow_cast-result : tie.Need-overflow_cast-result
+overflow_cast-result c = search rules
 
-sub-result : tie.Need-overflow_sub-result
-sub-result c = search rules
+overflow_sub-result : tie.Need-overflow_sub-result
+overflow_sub-result c = search rules
 
-cast-result-2 : tie.Need-overflow_cast-result-else-u-lt9223372036854775808
-cast-result-2 c = search rules
+overflow_cast-result-else-u-lt9223372036854775808 : tie.Need-overflow_cast-result-else-u-lt9223372036854775808
+overflow_cast-result-else-u-lt9223372036854775808 c = search rules
 
-sub-result-2 : tie.Need-overflow_sub-result-else-u-lt9223372036854775808
-sub-result-2 c = subst⁻¹ (SFits w64) (is c) (record { sfits = small c })
+overflow_sub-result-else-u-lt9223372036854775808 : tie.Need-overflow_sub-result-else-u-lt9223372036854775808
+overflow_sub-result-else-u-lt9223372036854775808 c = subst⁻¹ (SFits w64) (is c) (record { sfits = small c })
 
-returns : tie.Need-returns-then-u-lt9223372036854775808
+returns-then-u-lt9223372036854775808 : tie.Need-returns-then-u-lt9223372036854775808
 unfolding signed
-returns c = search rules
+returns-then-u-lt9223372036854775808 c = search rules
 
-returns-2 : tie.Need-returns-else-u-lt9223372036854775808
-returns-2 c =
+returns-else-u-lt9223372036854775808 : tie.Need-returns-else-u-lt9223372036854775808
+returns-else-u-lt9223372036854775808 c =
     ap (λ (z : ℤ). to_z w64 (of_z w64 z)) (is c)
     ∙ to_z-of_z w64 (negsuc (18446744073709551615 - c.before.args.u)) (record { sfits = small c })
     ∙ sym (signed_high w64 c.before.args.u c.if-u-lt9223372036854775808.false)
 
 pub to_i64_spec : {M : Type 1} → statement M
 to_i64_spec =
-    tie.close (tie.spec cast-result sub-result cast-result-2 sub-result-2 returns returns-2)
+    tie.close (tie.spec overflow_cast-result overflow_sub-result overflow_cast-result-else-u-lt9223372036854775808 overflow_sub-result-else-u-lt9223372036854775808 returns-then-u-lt9223372036854775808 returns-else-u-lt9223372036854775808)

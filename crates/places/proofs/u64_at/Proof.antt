@@ -7,26 +7,26 @@ use Rattle.places.proofs.Numbers.{be_add}
 use Rattle.places.proofs.u64_at.Statement.{statement}
 use Rattle.places.proofs.u64_at.Tie as tie
 
-u32-at-requires : tie.Need-u32_at-h-requires
-u32-at-requires c κs = search rules
+u32_at-h-requires : tie.Need-u32_at-h-requires
+u32_at-h-requires c κs = search rules
 
-add-u32-at : tie.Need-overflow_add-a
-add-u32-at c = search rules
+overflow_add-a : tie.Need-overflow_add-a
+overflow_add-a c = search rules
 
-u32-at-requires-2 : tie.Need-u32_at-l-requires
-u32-at-requires-2 c κs = search rules
+u32_at-l-requires : tie.Need-u32_at-l-requires
+u32_at-l-requires c κs = search rules
 
-cast-result : tie.Need-overflow_cast-result
-cast-result c = search rules
+overflow_cast-result : tie.Need-overflow_cast-result
+overflow_cast-result c = search rules
 
-mul-result : tie.Need-overflow_mul-result
-mul-result c = search rules
+overflow_mul-result : tie.Need-overflow_mul-result
+overflow_mul-result c = search rules
 
-cast-result-2 : tie.Need-overflow_cast-result-2
-cast-result-2 c = search rules
+overflow_cast-result-2 : tie.Need-overflow_cast-result-2
+overflow_cast-result-2 c = search rules
 
-add-result : tie.Need-overflow_add-result
-add-result c = search rules
+overflow_add-result : tie.Need-overflow_add-result
+overflow_add-result c = search rules
 
 returns : tie.Need-returns
 returns c =
@@ -40,11 +40,11 @@ pub u64_at_spec : {M : Type 1} → statement M
 u64_at_spec =
     tie.close
     (tie.spec
-    u32-at-requires
-    add-u32-at
-    u32-at-requires-2
-    cast-result
-    mul-result
-    cast-result-2
-    add-result
+    u32_at-h-requires
+    overflow_add-a
+    u32_at-l-requires
+    overflow_cast-result
+    overflow_mul-result
+    overflow_cast-result-2
+    overflow_add-result
     returns)

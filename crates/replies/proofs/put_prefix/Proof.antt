@@ -6,35 +6,35 @@ use borrow.Author.Rules.{rules}
 use Rattle.replies.proofs.put_prefix.Statement.{statement}
 use Rattle.replies.proofs.put_prefix.Tie as tie
 
-put-byte-requires : tie.Need-put_byte-n-requires
-put-byte-requires c κs = omega (arith, prefix_three c.before.if-address-gt0.true)
+put_byte-n-requires : tie.Need-put_byte-n-requires
+put_byte-n-requires c κs = omega (arith, prefix_three c.before.if-address-gt0.true)
 
-add-put-pair : tie.Need-overflow_add-address
-add-put-pair c = search rules
+overflow_add-address : tie.Need-overflow_add-address
+overflow_add-address c = search rules
 
-add-put-pair-2 : tie.Need-overflow_add-address-then-address-gt0
-add-put-pair-2 c = search rules
+overflow_add-address-then-address-gt0 : tie.Need-overflow_add-address-then-address-gt0
+overflow_add-address-then-address-gt0 c = search rules
 
-put-pair-requires : tie.Need-put_pair-requires
-put-pair-requires c κs = omega (arith, prefix_three c.before.before.before.before.before.if-address-gt0.true)
+put_pair-requires : tie.Need-put_pair-requires
+put_pair-requires c κs = omega (arith, prefix_three c.before.before.before.before.before.if-address-gt0.true)
 
-same_length : tie.Need-shape_of-buffer
-same_length c = search rules
+shape_of-buffer : tie.Need-shape_of-buffer
+shape_of-buffer c = search rules
 
-returns : tie.Need-returns-then-address-gt0
-returns c = prefix_some c.before.before.before.before.before.before.before.before.if-address-gt0.true (more c.before.before.before.before.before.before.put_byte-n.ensures c.before.before.put_pair.ensures)
+returns-then-address-gt0 : tie.Need-returns-then-address-gt0
+returns-then-address-gt0 c = prefix_some c.before.before.before.before.before.before.before.before.if-address-gt0.true (more c.before.before.before.before.before.before.put_byte-n.ensures c.before.before.put_pair.ensures)
 
-returns-2 : tie.Need-returns-else-address-gt0
-returns-2 c = prefix_none _ c.if-address-gt0.false
+returns-else-address-gt0 : tie.Need-returns-else-address-gt0
+returns-else-address-gt0 c = prefix_none _ c.if-address-gt0.false
 
 pub put_prefix_spec : {M : Type 1} → statement M
 put_prefix_spec =
     tie.close
     (tie.spec
-    put-byte-requires
-    add-put-pair
-    add-put-pair-2
-    put-pair-requires
-    same_length
-    returns
-    returns-2)
+    put_byte-n-requires
+    overflow_add-address
+    overflow_add-address-then-address-gt0
+    put_pair-requires
+    shape_of-buffer
+    returns-then-address-gt0
+    returns-else-address-gt0)

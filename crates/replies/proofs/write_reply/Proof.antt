@@ -12,48 +12,48 @@ use borrow.Author.Rules.{rules}
 use Rattle.replies.proofs.write_reply.Statement.{statement}
 use Rattle.replies.proofs.write_reply.Tie as tie
 
-text-length-requires : tie.Need-text_length-text-requires
-text-length-requires c κs = search rules
+text_length-text-requires : tie.Need-text_length-text-requires
+text_length-text-requires c κs = search rules
 
-returns : tie.Need-returns-then-text-eq0
-returns c =
+returns-then-text-eq0 : tie.Need-returns-then-text-eq0
+returns-then-text-eq0 c =
     let a = c.before.before.before.args in
     simp (no_text a.address a.r (sym c.before.text_length-text.ensures ∙ c.if-text-eq0.true)) (silent_answer _, silent_bytes _)
 
-prefix-length-requires : tie.Need-prefix_length-prefix-requires
-prefix-length-requires c κs = search rules
+prefix_length-prefix-requires : tie.Need-prefix_length-prefix-requires
+prefix_length-prefix-requires c κs = search rules
 
-cast-prefix : tie.Need-overflow_cast-prefix
-cast-prefix c = search rules
+overflow_cast-prefix : tie.Need-overflow_cast-prefix
+overflow_cast-prefix c = search rules
 
-add-if2 : tie.Need-overflow_add-prefix
-add-if2 c = omega (arith, prefix_short c.before.before.before.before.args.address, text_short c.before.before.before.before.args.r)
+overflow_add-prefix : tie.Need-overflow_add-prefix
+overflow_add-prefix c = omega (arith, prefix_short c.before.before.before.before.args.address, text_short c.before.before.before.before.args.r)
 
-add-if2-2 : tie.Need-overflow_add-prefix-2
-add-if2-2 c = omega (arith, prefix_short c.before.before.before.before.args.address, text_short c.before.before.before.before.args.r)
+overflow_add-prefix-2 : tie.Need-overflow_add-prefix-2
+overflow_add-prefix-2 c = omega (arith, prefix_short c.before.before.before.before.args.address, text_short c.before.before.before.before.args.r)
 
-returns-2 : tie.Need-returns-then-buffer-prefix
-returns-2 c =
+returns-then-buffer-prefix : tie.Need-returns-then-buffer-prefix
+returns-then-buffer-prefix c =
     let a = c.before.before.before.before.before.args in
     let xs = framed a.address (text_of a.r) in
     let h : length a.buffer-1.now < length xs = rw (length_framed a.address a.r) (omega arith) in
     simp (some_text a.address a.r (λ e. c.before.before.if-text-eq0.false (c.before.before.before.text_length-text.ensures ∙ e))) (short_answer xs a.buffer-1.now h, short_bytes xs a.buffer-1.now h)
 
-put-prefix-requires : tie.Need-put_prefix-n-requires
-put-prefix-requires c κs = search rules
+put_prefix-n-requires : tie.Need-put_prefix-n-requires
+put_prefix-n-requires c κs = search rules
 
-put-text-requires : tie.Need-put_text-n-requires
-put-text-requires c κs = search rules
+put_text-n-requires : tie.Need-put_text-n-requires
+put_text-n-requires c κs = search rules
 
-put-pair-requires : tie.Need-put_pair-n-requires
-put-pair-requires c κs = search rules
+put_pair-n-requires : tie.Need-put_pair-n-requires
+put_pair-n-requires c κs = search rules
 
-same_length : tie.Need-shape_of-buffer
-same_length c = search rules
+shape_of-buffer : tie.Need-shape_of-buffer
+shape_of-buffer c = search rules
 
-returns-3 : tie.Need-returns
+returns : tie.Need-returns
 unfolding framed
-returns-3 c =
+returns c =
     let end = c.before.before in
     let text = end.before.before.before.before in
     let prefix = text.before.before.before.before in
@@ -66,15 +66,15 @@ pub write_reply_spec : {M : Type 1} → statement M
 write_reply_spec =
     tie.close
     (tie.spec
-    text-length-requires
-    returns
-    prefix-length-requires
-    cast-prefix
-    add-if2
-    add-if2-2
-    returns-2
-    put-prefix-requires
-    put-text-requires
-    put-pair-requires
-    same_length
-    returns-3)
+    text_length-text-requires
+    returns-then-text-eq0
+    prefix_length-prefix-requires
+    overflow_cast-prefix
+    overflow_add-prefix
+    overflow_add-prefix-2
+    returns-then-buffer-prefix
+    put_prefix-n-requires
+    put_text-n-requires
+    put_pair-n-requires
+    shape_of-buffer
+    returns)

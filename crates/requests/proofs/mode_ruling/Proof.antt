@@ -6,14 +6,14 @@ use Rattle.requests.proofs.mode_ruling.Tie as tie
 enum_told : tie.Need-enum_told-1
 enum_told c = search rules
 
-enum-told-2 : tie.Need-enum_told-in-Loss
-enum-told-2 c = search rules
+enum_told-in-Loss : tie.Need-enum_told-in-Loss
+enum_told-in-Loss c = search rules
 
-returns : tie.Need-returns-in-Normal
-returns c = simp c.enum_told-1.given.1
+returns-in-Normal : tie.Need-returns-in-Normal
+returns-in-Normal c = simp c.enum_told-1.given.1
 
-returns-2 : tie.Need-returns-in-Loss
-returns-2 c = simp c.enum_told-in-Loss-1.given.1
+returns-in-Loss : tie.Need-returns-in-Loss
+returns-in-Loss c = simp c.enum_told-in-Loss-1.given.1
 
 pub mode_ruling_spec : {M : Type 1} → statement M
-mode_ruling_spec = tie.close (tie.spec enum_told enum-told-2 returns returns-2)
+mode_ruling_spec = tie.close (tie.spec enum_told enum_told-in-Loss returns-in-Normal returns-in-Loss)

@@ -16,23 +16,23 @@ divisions s = search sfits_of
 enum_told : tie.Need-enum_told-1
 enum_told c = search rules
 
-returns : tie.Need-returns-in-Nothing
-returns c = simp c.enum_told-1.given.1
+returns-in-Nothing : tie.Need-returns-in-Nothing
+returns-in-Nothing c = simp c.enum_told-1.given.1
 
-enum-told-2 : tie.Need-enum_told-in-Zero
-enum-told-2 c = search rules
+enum_told-in-Zero : tie.Need-enum_told-in-Zero
+enum_told-in-Zero c = search rules
 
-in-zero-range-requires : tie.Need-in_zero_range-inside-requires
-in-zero-range-requires c κs = search rules
+in_zero_range-inside-requires : tie.Need-in_zero_range-inside-requires
+in_zero_range-inside-requires c κs = search rules
 
-still-ruling-requires : tie.Need-still_ruling-requires
-still-ruling-requires c κs = search rules
+still_ruling-requires : tie.Need-still_ruling-requires
+still_ruling-requires c κs = search rules
 
-fit-ruling-requires : tie.Need-fit_ruling-requires
-fit-ruling-requires c κs = search rules
+fit_ruling-requires : tie.Need-fit_ruling-requires
+fit_ruling-requires c κs = search rules
 
-returns-2 : tie.Need-returns-in-Zero
-returns-2 c =
+returns-in-Zero : tie.Need-returns-in-Zero
+returns-in-Zero c =
     let z = c.before.before in
     let m = z.before.before in
     simp (
@@ -43,20 +43,20 @@ returns-2 c =
       m.enum_told-in-Zero-1.given.1,
     )
 
-enum-told-3 : tie.Need-enum_told-in-Tare
-enum-told-3 c = search rules
+enum_told-in-Tare : tie.Need-enum_told-in-Tare
+enum_told-in-Tare c = search rules
 
-in-tare-range-requires : tie.Need-in_tare_range-inside-requires
-in-tare-range-requires c κs = search rules
+in_tare_range-inside-requires : tie.Need-in_tare_range-inside-requires
+in_tare_range-inside-requires c κs = search rules
 
-still-ruling-requires-2 : tie.Need-still_ruling-requires-in-Tare
-still-ruling-requires-2 c κs = search rules
+still_ruling-requires-in-Tare : tie.Need-still_ruling-requires-in-Tare
+still_ruling-requires-in-Tare c κs = search rules
 
-fit-ruling-requires-2 : tie.Need-fit_ruling-requires-in-Tare
-fit-ruling-requires-2 c κs = search rules
+fit_ruling-requires-in-Tare : tie.Need-fit_ruling-requires-in-Tare
+fit_ruling-requires-in-Tare c κs = search rules
 
-returns-3 : tie.Need-returns-in-Tare
-returns-3 c =
+returns-in-Tare : tie.Need-returns-in-Tare
+returns-in-Tare c =
     let z = c.before.before in
     let m = z.before.before in
     simp (
@@ -67,92 +67,92 @@ returns-3 c =
       m.enum_told-in-Tare-1.given.1,
     )
 
-enum-told-4 : tie.Need-enum_told-in-TareClear
-enum-told-4 c = search rules
+enum_told-in-TareClear : tie.Need-enum_told-in-TareClear
+enum_told-in-TareClear c = search rules
 
-idle-ruling-requires : tie.Need-idle_ruling-requires
-idle-ruling-requires c κs = search rules
+idle_ruling-requires : tie.Need-idle_ruling-requires
+idle_ruling-requires c κs = search rules
 
-returns-4 : tie.Need-returns-in-TareClear
-returns-4 c = simp (c.idle_ruling.ensures, c.before.enum_told-in-TareClear-1.given.1)
+returns-in-TareClear : tie.Need-returns-in-TareClear
+returns-in-TareClear c = simp (c.idle_ruling.ensures, c.before.enum_told-in-TareClear-1.given.1)
 
-enum-told-5 : tie.Need-enum_told-in-Start
-enum-told-5 c = search rules
+enum_told-in-Start : tie.Need-enum_told-in-Start
+enum_told-in-Start c = search rules
 
-idle-ruling-requires-2 : tie.Need-idle_ruling-requires-in-Start
-idle-ruling-requires-2 c κs = search rules
+idle_ruling-requires-in-Start : tie.Need-idle_ruling-requires-in-Start
+idle_ruling-requires-in-Start c κs = search rules
 
-fit-ruling-requires-3 : tie.Need-fit_ruling-requires-in-Start
-fit-ruling-requires-3 c κs = search rules
+fit_ruling-requires-in-Start : tie.Need-fit_ruling-requires-in-Start
+fit_ruling-requires-in-Start c κs = search rules
 
-returns-5 : tie.Need-returns-in-Start
-returns-5 c = simp (c.fit_ruling-in-Start.ensures, c.before.idle_ruling-in-Start.ensures, c.before.before.enum_told-in-Start-1.given.1)
+returns-in-Start : tie.Need-returns-in-Start
+returns-in-Start c = simp (c.fit_ruling-in-Start.ensures, c.before.idle_ruling-in-Start.ensures, c.before.before.enum_told-in-Start-1.given.1)
 
-enum-told-6 : tie.Need-enum_told-in-Stop
-enum-told-6 c = search rules
+enum_told-in-Stop : tie.Need-enum_told-in-Stop
+enum_told-in-Stop c = search rules
 
-returns-6 : tie.Need-returns-in-Stop
-returns-6 c = simp c.enum_told-in-Stop-1.given.1
+returns-in-Stop : tie.Need-returns-in-Stop
+returns-in-Stop c = simp c.enum_told-in-Stop-1.given.1
 
-enum-known-r : tie.Need-enum_known-r
-enum-known-r c = search rules
+enum_known-r : tie.Need-enum_known-r
+enum_known-r c = search rules
 
-set-ruling-requires : tie.Need-set_ruling-requires
-set-ruling-requires c κs = search rules
+set_ruling-requires : tie.Need-set_ruling-requires
+set_ruling-requires c κs = search rules
 
-returns-7 : tie.Need-returns-in-Set
-returns-7 c = simp (c.set_ruling.ensures, c.before.before.r-1.given.1)
+returns-in-Set : tie.Need-returns-in-Set
+returns-in-Set c = simp (c.set_ruling.ensures, c.before.before.r-1.given.1)
 
-enum-told-7 : tie.Need-enum_told-in-TotalClear
-enum-told-7 c = search rules
+enum_told-in-TotalClear : tie.Need-enum_told-in-TotalClear
+enum_told-in-TotalClear c = search rules
 
-returns-8 : tie.Need-returns-in-TotalClear
-returns-8 c = simp c.enum_told-in-TotalClear-1.given.1
+returns-in-TotalClear : tie.Need-returns-in-TotalClear
+returns-in-TotalClear c = simp c.enum_told-in-TotalClear-1.given.1
 
-enum-told-8 : tie.Need-enum_told-in-Undo
-enum-told-8 c = search rules
+enum_told-in-Undo : tie.Need-enum_told-in-Undo
+enum_told-in-Undo c = search rules
 
-undo-ruling-requires : tie.Need-undo_ruling-requires
-undo-ruling-requires c κs = search rules
+undo_ruling-requires : tie.Need-undo_ruling-requires
+undo_ruling-requires c κs = search rules
 
-returns-9 : tie.Need-returns-in-Undo
-returns-9 c = simp (c.undo_ruling.ensures, c.before.enum_told-in-Undo-1.given.1)
+returns-in-Undo : tie.Need-returns-in-Undo
+returns-in-Undo c = simp (c.undo_ruling.ensures, c.before.enum_told-in-Undo-1.given.1)
 
-enum-told-9 : tie.Need-enum_told-in-ShowGross
-enum-told-9 c = search rules
+enum_told-in-ShowGross : tie.Need-enum_told-in-ShowGross
+enum_told-in-ShowGross c = search rules
 
-returns-10 : tie.Need-returns-in-ShowGross
-returns-10 c = simp c.enum_told-in-ShowGross-1.given.1
+returns-in-ShowGross : tie.Need-returns-in-ShowGross
+returns-in-ShowGross c = simp c.enum_told-in-ShowGross-1.given.1
 
-enum-told-10 : tie.Need-enum_told-in-ShowNet
-enum-told-10 c = search rules
+enum_told-in-ShowNet : tie.Need-enum_told-in-ShowNet
+enum_told-in-ShowNet c = search rules
 
-returns-11 : tie.Need-returns-in-ShowNet
-returns-11 c = simp c.enum_told-in-ShowNet-1.given.1
+returns-in-ShowNet : tie.Need-returns-in-ShowNet
+returns-in-ShowNet c = simp c.enum_told-in-ShowNet-1.given.1
 
-enum-told-11 : tie.Need-enum_told-in-DayClose
-enum-told-11 c = search rules
+enum_told-in-DayClose : tie.Need-enum_told-in-DayClose
+enum_told-in-DayClose c = search rules
 
-good-ruling-requires : tie.Need-good_ruling-requires
-good-ruling-requires c κs = search rules
+good_ruling-requires : tie.Need-good_ruling-requires
+good_ruling-requires c κs = search rules
 
-returns-12 : tie.Need-returns-in-DayClose
-returns-12 c = simp (c.good_ruling.ensures, c.before.enum_told-in-DayClose-1.given.1)
+returns-in-DayClose : tie.Need-returns-in-DayClose
+returns-in-DayClose c = simp (c.good_ruling.ensures, c.before.enum_told-in-DayClose-1.given.1)
 
-enum-told-12 : tie.Need-enum_told-in-Discharge
-enum-told-12 c = search rules
+enum_told-in-Discharge : tie.Need-enum_told-in-Discharge
+enum_told-in-Discharge c = search rules
 
-mode-ruling-requires : tie.Need-mode_ruling-requires
-mode-ruling-requires c κs = search rules
+mode_ruling-requires : tie.Need-mode_ruling-requires
+mode_ruling-requires c κs = search rules
 
-idle-ruling-requires-3 : tie.Need-idle_ruling-requires-in-Discharge
-idle-ruling-requires-3 c κs = search rules
+idle_ruling-requires-in-Discharge : tie.Need-idle_ruling-requires-in-Discharge
+idle_ruling-requires-in-Discharge c κs = search rules
 
-fit-ruling-requires-4 : tie.Need-fit_ruling-requires-in-Discharge
-fit-ruling-requires-4 c κs = search rules
+fit_ruling-requires-in-Discharge : tie.Need-fit_ruling-requires-in-Discharge
+fit_ruling-requires-in-Discharge c κs = search rules
 
-returns-13 : tie.Need-returns-in-Discharge
-returns-13 c =
+returns-in-Discharge : tie.Need-returns-in-Discharge
+returns-in-Discharge c =
     simp (
       c.fit_ruling-in-Discharge.ensures,
       c.before.idle_ruling-in-Discharge.ensures,
@@ -165,43 +165,43 @@ ruling_spec =
     tie.close
     (tie.spec
     enum_told
-    returns
-    enum-told-2
-    in-zero-range-requires
-    still-ruling-requires
-    fit-ruling-requires
-    returns-2
-    enum-told-3
-    in-tare-range-requires
-    still-ruling-requires-2
-    fit-ruling-requires-2
-    returns-3
-    enum-told-4
-    idle-ruling-requires
-    returns-4
-    enum-told-5
-    idle-ruling-requires-2
-    fit-ruling-requires-3
-    returns-5
-    enum-told-6
-    returns-6
-    enum-known-r
-    set-ruling-requires
-    returns-7
-    enum-told-7
-    returns-8
-    enum-told-8
-    undo-ruling-requires
-    returns-9
-    enum-told-9
-    returns-10
-    enum-told-10
-    returns-11
-    enum-told-11
-    good-ruling-requires
-    returns-12
-    enum-told-12
-    mode-ruling-requires
-    idle-ruling-requires-3
-    fit-ruling-requires-4
-    returns-13)
+    returns-in-Nothing
+    enum_told-in-Zero
+    in_zero_range-inside-requires
+    still_ruling-requires
+    fit_ruling-requires
+    returns-in-Zero
+    enum_told-in-Tare
+    in_tare_range-inside-requires
+    still_ruling-requires-in-Tare
+    fit_ruling-requires-in-Tare
+    returns-in-Tare
+    enum_told-in-TareClear
+    idle_ruling-requires
+    returns-in-TareClear
+    enum_told-in-Start
+    idle_ruling-requires-in-Start
+    fit_ruling-requires-in-Start
+    returns-in-Start
+    enum_told-in-Stop
+    returns-in-Stop
+    enum_known-r
+    set_ruling-requires
+    returns-in-Set
+    enum_told-in-TotalClear
+    returns-in-TotalClear
+    enum_told-in-Undo
+    undo_ruling-requires
+    returns-in-Undo
+    enum_told-in-ShowGross
+    returns-in-ShowGross
+    enum_told-in-ShowNet
+    returns-in-ShowNet
+    enum_told-in-DayClose
+    good_ruling-requires
+    returns-in-DayClose
+    enum_told-in-Discharge
+    mode_ruling-requires
+    idle_ruling-requires-in-Discharge
+    fit_ruling-requires-in-Discharge
+    returns-in-Discharge)

@@ -3,14 +3,14 @@ use borrow.Author.Rules.{rules}
 use Rattle.requests.proofs.set_ruling.Statement.{statement}
 use Rattle.requests.proofs.set_ruling.Tie as tie
 
-setpoints-fit-requires : tie.Need-setpoints_fit-requires
-setpoints-fit-requires c κs = search rules
+setpoints_fit-requires : tie.Need-setpoints_fit-requires
+setpoints_fit-requires c κs = search rules
 
-returns : tie.Need-returns-then-setpoints_fit
-returns c = simp (c.if-setpoints_fit.true, ← c.before.setpoints_fit_lem.ensures)
+returns-then-setpoints_fit : tie.Need-returns-then-setpoints_fit
+returns-then-setpoints_fit c = simp (c.if-setpoints_fit.true, ← c.before.setpoints_fit_lem.ensures)
 
-returns-2 : tie.Need-returns
-returns-2 c = simp (c.if-setpoints_fit.false, ← c.before.setpoints_fit_lem.ensures)
+returns : tie.Need-returns
+returns c = simp (c.if-setpoints_fit.false, ← c.before.setpoints_fit_lem.ensures)
 
 pub set_ruling_spec : {M : Type 1} → statement M
-set_ruling_spec = tie.close (tie.spec setpoints-fit-requires returns returns-2)
+set_ruling_spec = tie.close (tie.spec setpoints_fit-requires returns-then-setpoints_fit returns)

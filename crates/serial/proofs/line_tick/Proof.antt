@@ -17,32 +17,32 @@ use Rattle.serial.proofs.Parts.{fitted, short}
 use Rattle.serial.proofs.line_tick.Statement.{statement}
 use Rattle.serial.proofs.line_tick.Tie as tie
 
-command-of-requires : tie.Need-command_of-command-requires
-command-of-requires c κs = search rules
+command_of-command-requires : tie.Need-command_of-command-requires
+command_of-command-requires c κs = search rules
 
-request-of-requires : tie.Need-request_of-request-requires
-request-of-requires c κs = search rules
+request_of-request-requires : tie.Need-request_of-request-requires
+request_of-request-requires c κs = search rules
 
-tick-requires : tie.Need-tick-t-requires
-tick-requires c κs = search rules
+tick-t-requires : tie.Need-tick-t-requires
+tick-t-requires c κs = search rules
 
-reply-due-requires : tie.Need-reply_due-due-requires
-reply-due-requires c κs = search rules
+reply_due-due-requires : tie.Need-reply_due-due-requires
+reply_due-due-requires c κs = search rules
 
-write-reply-requires : tie.Need-write_reply-requires
-write-reply-requires c κs = search rules
+write_reply-requires : tie.Need-write_reply-requires
+write_reply-requires c κs = search rules
 
-enum-known-length : tie.Need-enum_known-length
-enum-known-length c = search rules
+enum_known-length : tie.Need-enum_known-length
+enum_known-length c = search rules
 
-told-of-requires : tie.Need-told_of-requires
-told-of-requires c κs = search rules
+told_of-requires : tie.Need-told_of-requires
+told_of-requires c κs = search rules
 
-with-line-requires : tie.Need-with_line-requires
-with-line-requires c κs = search rules
+with_line-requires : tie.Need-with_line-requires
+with_line-requires c κs = search rules
 
-same_length : tie.Need-shape_of-reply-in-Bytes
-same_length c = search rules
+shape_of-reply-in-Bytes : tie.Need-shape_of-reply-in-Bytes
+shape_of-reply-in-Bytes c = search rules
 
 -- the number that the line is told, beside its tick and its reply
 numbered : (s : Settings) (st : State) (count : ℤ) (contact : Bool) (receive buffer : List ℕ) (r : LineTick) (after : List ℕ)
@@ -52,8 +52,8 @@ numbered : (s : Settings) (st : State) (count : ℤ) (contact : Bool) (receive b
 numbered s st count contact receive buffer r after e =
     (e.0, (e.1, ap (λ (t : LineTick). told_number t.told) e.0 ∙ line_number s st count contact receive buffer))
 
-returns : tie.Need-returns-in-Bytes
-returns c =
+returns-in-Bytes : tie.Need-returns-in-Bytes
+returns-in-Bytes c =
     let n = c.before.before.before in
     let w = n.before.before.before.before in
     let d = w.before.before in
@@ -70,14 +70,14 @@ returns c =
 enum_told : tie.Need-enum_told-1
 enum_told c = search rules
 
-silent-tick-requires : tie.Need-silent_tick-requires
-silent-tick-requires c κs = search rules
+silent_tick-requires : tie.Need-silent_tick-requires
+silent_tick-requires c κs = search rules
 
-same-length-2 : tie.Need-shape_of-reply-in-Short
-same-length-2 c = search rules
+shape_of-reply-in-Short : tie.Need-shape_of-reply-in-Short
+shape_of-reply-in-Short c = search rules
 
-returns-2 : tie.Need-returns-in-Short
-returns-2 c =
+returns-in-Short : tie.Need-returns-in-Short
+returns-in-Short c =
     let w = c.before.before.before.before.before in
     let d = w.before.before in
     let t = d.before.before in
@@ -94,17 +94,17 @@ pub line_tick_spec : {M : Type 1} → statement M
 line_tick_spec =
     tie.close
     (tie.spec
-    command-of-requires
-    request-of-requires
-    tick-requires
-    reply-due-requires
-    write-reply-requires
-    enum-known-length
-    told-of-requires
-    with-line-requires
-    same_length
-    returns
+    command_of-command-requires
+    request_of-request-requires
+    tick-t-requires
+    reply_due-due-requires
+    write_reply-requires
+    enum_known-length
+    told_of-requires
+    with_line-requires
+    shape_of-reply-in-Bytes
+    returns-in-Bytes
     enum_told
-    silent-tick-requires
-    same-length-2
-    returns-2)
+    silent_tick-requires
+    shape_of-reply-in-Short
+    returns-in-Short)

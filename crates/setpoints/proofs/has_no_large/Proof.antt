@@ -6,14 +6,14 @@ use Rattle.setpoints.proofs.has_no_large.Tie as tie
 enum_told : tie.Need-enum_told-1
 enum_told c = search rules
 
-enum-told-2 : tie.Need-enum_told-in-Loss
-enum-told-2 c = search rules
+enum_told-in-Loss : tie.Need-enum_told-in-Loss
+enum_told-in-Loss c = search rules
 
-returns : tie.Need-returns-in-Normal
-returns c = simp c.before.enum_told-1.given.1
+returns-in-Normal : tie.Need-returns-in-Normal
+returns-in-Normal c = simp c.before.enum_told-1.given.1
 
-returns-2 : tie.Need-returns-in-Loss
-returns-2 c = search rules
+returns-in-Loss : tie.Need-returns-in-Loss
+returns-in-Loss c = search rules
 
 pub has_no_large_spec : {M : Type 1} → statement M
-has_no_large_spec = tie.close (tie.spec enum_told enum-told-2 returns returns-2)
+has_no_large_spec = tie.close (tie.spec enum_told enum_told-in-Loss returns-in-Normal returns-in-Loss)

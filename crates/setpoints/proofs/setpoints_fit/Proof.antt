@@ -5,39 +5,39 @@ use Rattle.outline.specs.Setpoints.{setpoints_fit}
 use Rattle.setpoints.proofs.setpoints_fit.Statement.{statement}
 use Rattle.setpoints.proofs.setpoints_fit.Tie as tie
 
-is-seven-requires : tie.Need-is_seven-requires
-is-seven-requires c κs = search rules
+is_seven-requires : tie.Need-is_seven-requires
+is_seven-requires c κs = search rules
 
-preliminary-fits-requires : tie.Need-preliminary_fits-requires
-preliminary-fits-requires c κs = search rules
+preliminary_fits-requires : tie.Need-preliminary_fits-requires
+preliminary_fits-requires c κs = search rules
 
-optional-fits-requires : tie.Need-optional_fits-requires
-optional-fits-requires c κs = search rules
+optional_fits-requires : tie.Need-optional_fits-requires
+optional_fits-requires c κs = search rules
 
-returns : tie.Need-returns-then-not-is_seven
+returns-then-not-is_seven : tie.Need-returns-then-not-is_seven
 unfolding setpoints_fit
-returns c = simp (not-true c.before.is_seven.result c.if-not-is_seven.true, ← c.before.is_seven.ensures)
+returns-then-not-is_seven c = simp (not-true c.before.is_seven.result c.if-not-is_seven.true, ← c.before.is_seven.ensures)
 
-returns-2 : tie.Need-returns-then-p
+returns-then-p : tie.Need-returns-then-p
 unfolding setpoints_fit
-returns-2 c = simp (lt-leb _ _ c.if-p.true, not-false c.before.before.before.is_seven.result c.before.before.if-not-is_seven.false, ← c.before.before.before.is_seven.ensures)
+returns-then-p c = simp (lt-leb _ _ c.if-p.true, not-false c.before.before.before.is_seven.result c.before.before.if-not-is_seven.false, ← c.before.before.before.is_seven.ensures)
 
-returns-3 : tie.Need-returns-then-not-preliminary_fits
+returns-then-not-preliminary_fits : tie.Need-returns-then-not-preliminary_fits
 unfolding setpoints_fit
-returns-3 c = simp (not-true c.before.preliminary_fits.result c.if-not-preliminary_fits.true, ← c.before.preliminary_fits.ensures, le-leb _ _ c.before.before.if-p.false, not-false c.before.before.before.before.before.is_seven.result c.before.before.before.before.if-not-is_seven.false, ← c.before.before.before.before.before.is_seven.ensures)
+returns-then-not-preliminary_fits c = simp (not-true c.before.preliminary_fits.result c.if-not-preliminary_fits.true, ← c.before.preliminary_fits.ensures, le-leb _ _ c.before.before.if-p.false, not-false c.before.before.before.before.before.is_seven.result c.before.before.before.before.if-not-is_seven.false, ← c.before.before.before.before.before.is_seven.ensures)
 
-returns-4 : tie.Need-returns
+returns : tie.Need-returns
 unfolding setpoints_fit
-returns-4 c = simp (c.optional_fits_lem.ensures, not-false c.before.before.preliminary_fits.result c.before.if-not-preliminary_fits.false, ← c.before.before.preliminary_fits.ensures, le-leb _ _ c.before.before.before.if-p.false, not-false c.before.before.before.before.before.before.is_seven.result c.before.before.before.before.before.if-not-is_seven.false, ← c.before.before.before.before.before.before.is_seven.ensures)
+returns c = simp (c.optional_fits_lem.ensures, not-false c.before.before.preliminary_fits.result c.before.if-not-preliminary_fits.false, ← c.before.before.preliminary_fits.ensures, le-leb _ _ c.before.before.before.if-p.false, not-false c.before.before.before.before.before.before.is_seven.result c.before.before.before.before.before.if-not-is_seven.false, ← c.before.before.before.before.before.before.is_seven.ensures)
 
 pub setpoints_fit_spec : {M : Type 1} → statement M
 setpoints_fit_spec =
     tie.close
     (tie.spec
-    is-seven-requires
-    returns
-    returns-2
-    preliminary-fits-requires
-    returns-3
-    optional-fits-requires
-    returns-4)
+    is_seven-requires
+    returns-then-not-is_seven
+    returns-then-p
+    preliminary_fits-requires
+    returns-then-not-preliminary_fits
+    optional_fits-requires
+    returns)

@@ -14,29 +14,29 @@ held s = search sfits_of
 fits : (s : tie.Start) → Narrow s.args.g
 fits s = narrow s.args.g (held s) s.requires
 
-mode-of-requires : tie.Need-mode_of-requires
-mode-of-requires c κs = search rules
+mode_of-requires : tie.Need-mode_of-requires
+mode_of-requires c κs = search rules
 
-cast-t3 : tie.Need-overflow_cast-result
-cast-t3 c = let n = fits c.before.before.before.before in search rules
+overflow_cast-result : tie.Need-overflow_cast-result
+overflow_cast-result c = let n = fits c.before.before.before.before in search rules
 
-cast-t4 : tie.Need-overflow_cast-result-2
-cast-t4 c = let n = fits c.before.before.before.before.before.before in search rules
+overflow_cast-result-2 : tie.Need-overflow_cast-result-2
+overflow_cast-result-2 c = let n = fits c.before.before.before.before.before.before in search rules
 
-cast-t5 : tie.Need-overflow_cast-result-3
-cast-t5 c = let n = fits c.before.before.before.before.before.before.before.before in search rules
+overflow_cast-result-3 : tie.Need-overflow_cast-result-3
+overflow_cast-result-3 c = let n = fits c.before.before.before.before.before.before.before.before in search rules
 
-cast-t6 : tie.Need-overflow_cast-result-4
-cast-t6 c = let n = fits c.before.before.before.before.before.before.before.before.before.before in search rules
+overflow_cast-result-4 : tie.Need-overflow_cast-result-4
+overflow_cast-result-4 c = let n = fits c.before.before.before.before.before.before.before.before.before.before in search rules
 
-cast-t7 : tie.Need-overflow_cast-result-5
-cast-t7 c = let n = fits c.before.before.before.before.before.before.before.before.before.before.before.before in search rules
+overflow_cast-result-5 : tie.Need-overflow_cast-result-5
+overflow_cast-result-5 c = let n = fits c.before.before.before.before.before.before.before.before.before.before.before.before in search rules
 
-cast-t8 : tie.Need-overflow_cast-result-6
-cast-t8 c = let n = fits c.before.before.before.before.before.before.before.before.before.before.before.before.before.before in search rules
+overflow_cast-result-6 : tie.Need-overflow_cast-result-6
+overflow_cast-result-6 c = let n = fits c.before.before.before.before.before.before.before.before.before.before.before.before.before.before in search rules
 
-discharging-of-requires : tie.Need-discharging_of-requires
-discharging-of-requires c κs = c.before.before.before.before.before.before.before.before.before.before.before.before.before.before.requires
+discharging_of-requires : tie.Need-discharging_of-requires
+discharging_of-requires c κs = c.before.before.before.before.before.before.before.before.before.before.before.before.before.before.requires
 
 returns : tie.Need-returns
 unfolding settings_of
@@ -57,4 +57,4 @@ returns c =
 
 pub batching_of_spec : {M : Type 1} → statement M
 batching_of_spec =
-    tie.close (tie.spec mode-of-requires cast-t3 cast-t4 cast-t5 cast-t6 cast-t7 cast-t8 discharging-of-requires returns)
+    tie.close (tie.spec mode_of-requires overflow_cast-result overflow_cast-result-2 overflow_cast-result-3 overflow_cast-result-4 overflow_cast-result-5 overflow_cast-result-6 discharging_of-requires returns)

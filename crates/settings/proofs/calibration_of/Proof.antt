@@ -23,14 +23,14 @@ counts c =
     let h = held c.before.before.before in
     be (got c.difference-counts.result c.difference-counts.type-inv) (simp (c.difference-counts.ensures, to_z-of_z h.span, to_z-of_z h.zero))
 
-difference-requires : tie.Need-difference-counts-requires
-difference-requires c κs = search rules
+difference-counts-requires : tie.Need-difference-counts-requires
+difference-counts-requires c κs = search rules
 
-cast-t4 : tie.Need-overflow_cast-result
-cast-t4 c = let f = (fits c.before.before.before).counts in drop_need (counts c) f.0 f.1
+overflow_cast-result : tie.Need-overflow_cast-result
+overflow_cast-result c = let f = (fits c.before.before.before).counts in drop_need (counts c) f.0 f.1
 
-cast-t5 : tie.Need-overflow_cast-result-2
-cast-t5 c = let n = fits c.before.before.before.before.before in search rules
+overflow_cast-result-2 : tie.Need-overflow_cast-result-2
+overflow_cast-result-2 c = let n = fits c.before.before.before.before.before in search rules
 
 returns : tie.Need-returns
 unfolding settings_of
@@ -39,4 +39,4 @@ returns c =
     simp ((counts c.before.before).read, to_z-of_z h.zero, to_z-of_z h.weight)
 
 pub calibration_of_spec : {M : Type 1} → statement M
-calibration_of_spec = tie.close (tie.spec difference-requires cast-t4 cast-t5 returns)
+calibration_of_spec = tie.close (tie.spec difference-counts-requires overflow_cast-result overflow_cast-result-2 returns)

@@ -14,14 +14,14 @@ held s = search sfits_of
 fits : (s : tie.Start) → Narrow s.args.g
 fits s = narrow s.args.g (held s) s.requires
 
-cast-t2 : tie.Need-overflow_cast-result
-cast-t2 c = let n = fits c.before.before in search rules
+overflow_cast-result : tie.Need-overflow_cast-result
+overflow_cast-result c = let n = fits c.before.before in search rules
 
-cast-t3 : tie.Need-overflow_cast-result-2
-cast-t3 c = let n = fits c.before.before.before.before in search rules
+overflow_cast-result-2 : tie.Need-overflow_cast-result-2
+overflow_cast-result-2 c = let n = fits c.before.before.before.before in search rules
 
-cast-t4 : tie.Need-overflow_cast-result-3
-cast-t4 c = let n = fits c.before.before.before.before.before.before in search rules
+overflow_cast-result-3 : tie.Need-overflow_cast-result-3
+overflow_cast-result-3 c = let n = fits c.before.before.before.before.before.before in search rules
 
 returns : tie.Need-returns
 unfolding settings_of
@@ -34,4 +34,4 @@ returns c =
     )
 
 pub discharging_of_spec : {M : Type 1} → statement M
-discharging_of_spec = tie.close (tie.spec cast-t2 cast-t3 cast-t4 returns)
+discharging_of_spec = tie.close (tie.spec overflow_cast-result overflow_cast-result-2 overflow_cast-result-3 returns)

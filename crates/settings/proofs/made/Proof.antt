@@ -11,29 +11,29 @@ use Rattle.settings.proofs.made.Tie as tie
 held : (s : tie.Start) → Held s.args.g
 held s = search sfits_of
 
-calibration-of-requires : tie.Need-calibration_of-requires
-calibration-of-requires c κs = search rules
+calibration_of-requires : tie.Need-calibration_of-requires
+calibration_of-requires c κs = search rules
 
-range-of-requires : tie.Need-range_of-requires
-range-of-requires c κs = search rules
+range_of-requires : tie.Need-range_of-requires
+range_of-requires c κs = search rules
 
-tracking-of-requires : tie.Need-tracking_of-requires
-tracking-of-requires c κs = search rules
+tracking_of-requires : tie.Need-tracking_of-requires
+tracking_of-requires c κs = search rules
 
-steadiness-of-requires : tie.Need-steadiness_of-requires
-steadiness-of-requires c κs = search rules
+steadiness_of-requires : tie.Need-steadiness_of-requires
+steadiness_of-requires c κs = search rules
 
-batching-of-requires : tie.Need-batching_of-requires
-batching-of-requires c κs = search rules
+batching_of-requires : tie.Need-batching_of-requires
+batching_of-requires c κs = search rules
 
-cast-t7 : tie.Need-overflow_cast-result
-cast-t7 c = let s = c.before.before.before.before.before.before.before in (narrow s.args.g (held s) s.requires).address
+overflow_cast-result : tie.Need-overflow_cast-result
+overflow_cast-result c = let s = c.before.before.before.before.before.before.before in (narrow s.args.g (held s) s.requires).address
 
-board-of-requires : tie.Need-board_of-requires
-board-of-requires c κs = search rules
+board_of-requires : tie.Need-board_of-requires
+board_of-requires c κs = search rules
 
-scale-of-requires : tie.Need-scale_of-requires
-scale-of-requires c κs = search rules
+scale_of-requires : tie.Need-scale_of-requires
+scale_of-requires c κs = search rules
 
 returns : tie.Need-returns
 unfolding settings_of
@@ -58,12 +58,12 @@ pub made_spec : {M : Type 1} → statement M
 made_spec =
     tie.close
     (tie.spec
-    calibration-of-requires
-    range-of-requires
-    tracking-of-requires
-    steadiness-of-requires
-    batching-of-requires
-    cast-t7
-    board-of-requires
-    scale-of-requires
+    calibration_of-requires
+    range_of-requires
+    tracking_of-requires
+    steadiness_of-requires
+    batching_of-requires
+    overflow_cast-result
+    board_of-requires
+    scale_of-requires
     returns)

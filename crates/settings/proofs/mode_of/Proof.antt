@@ -10,11 +10,11 @@ use Rattle.settings.proofs.mode_of.Tie as tie
 one : SFits w32 (pos 1)
 one = sfits_lit tt
 
-returns : tie.Need-returns-then-m-eq1
-returns c = simp (told_yes c.before.ranges.m one c.if-m-eq1.true)
+returns-then-m-eq1 : tie.Need-returns-then-m-eq1
+returns-then-m-eq1 c = simp (told_yes c.before.ranges.m one c.if-m-eq1.true)
 
-returns-2 : tie.Need-returns-else-m-eq1
-returns-2 c = simp (told_no c.before.ranges.m one c.if-m-eq1.false)
+returns-else-m-eq1 : tie.Need-returns-else-m-eq1
+returns-else-m-eq1 c = simp (told_no c.before.ranges.m one c.if-m-eq1.false)
 
 pub mode_of_spec : {M : Type 1} → statement M
-mode_of_spec = tie.close (tie.spec returns returns-2)
+mode_of_spec = tie.close (tie.spec returns-then-m-eq1 returns-else-m-eq1)

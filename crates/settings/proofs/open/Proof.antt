@@ -6,19 +6,19 @@ use Rattle.outline.specs.Settings.{open_of}
 use Rattle.settings.proofs.open.Statement.{statement}
 use Rattle.settings.proofs.open.Tie as tie
 
-settings-fit-requires : tie.Need-settings_fit-requires
-settings-fit-requires c κs = search rules
+settings_fit-requires : tie.Need-settings_fit-requires
+settings_fit-requires c κs = search rules
 
-returns : tie.Need-returns-then-not-settings_fit
+returns-then-not-settings_fit : tie.Need-returns-then-not-settings_fit
 unfolding open_of
-returns c = simp (sym c.before.settings_fit.ensures ∙ not-true c.before.settings_fit.result c.if-not-settings_fit.true)
+returns-then-not-settings_fit c = simp (sym c.before.settings_fit.ensures ∙ not-true c.before.settings_fit.result c.if-not-settings_fit.true)
 
 made-requires : tie.Need-made-requires
 made-requires c κs = sym c.before.settings_fit.ensures ∙ not-false c.before.settings_fit.result c.if-not-settings_fit.false
 
-returns-2 : tie.Need-returns
+returns : tie.Need-returns
 unfolding open_of
-returns-2 c = simp (sym c.before.before.settings_fit.ensures ∙ not-false c.before.before.settings_fit.result c.before.if-not-settings_fit.false, c.made.ensures)
+returns c = simp (sym c.before.before.settings_fit.ensures ∙ not-false c.before.before.settings_fit.result c.before.if-not-settings_fit.false, c.made.ensures)
 
 pub open_spec : {M : Type 1} → statement M
-open_spec = tie.close (tie.spec settings-fit-requires returns made-requires returns-2)
+open_spec = tie.close (tie.spec settings_fit-requires returns-then-not-settings_fit made-requires returns)

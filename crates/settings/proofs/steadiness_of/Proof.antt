@@ -14,11 +14,11 @@ held s = search sfits_of
 fits : (s : tie.Start) → Narrow s.args.g
 fits s = narrow s.args.g (held s) s.requires
 
-cast-t2 : tie.Need-overflow_cast-result
-cast-t2 c = let n = fits c.before.before in search rules
+overflow_cast-result : tie.Need-overflow_cast-result
+overflow_cast-result c = let n = fits c.before.before in search rules
 
-cast-t3 : tie.Need-overflow_cast-result-2
-cast-t3 c = let n = fits c.before.before.before.before in search rules
+overflow_cast-result-2 : tie.Need-overflow_cast-result-2
+overflow_cast-result-2 c = let n = fits c.before.before.before.before in search rules
 
 returns : tie.Need-returns
 unfolding settings_of
@@ -27,4 +27,4 @@ returns c =
     simp (to_z-of_z h.stabletime, to_z-of_z h.stablewidth)
 
 pub steadiness_of_spec : {M : Type 1} → statement M
-steadiness_of_spec = tie.close (tie.spec cast-t2 cast-t3 returns)
+steadiness_of_spec = tie.close (tie.spec overflow_cast-result overflow_cast-result-2 returns)

@@ -39,26 +39,26 @@ yes c = asked c.before ∙ not-false c.before.is_bookable.result c.if-not-is_boo
 found : (c : tie.After-magnitude-weight) → c.magnitude-weight.result ≡ nat_abs c.before.before.before.args.v
 found c = c.magnitude-weight.ensures ∙ ap nat_abs (to_z-of_z {w = w64} c.before.before.before.ranges.v)
 
-is-bookable-requires : tie.Need-is_bookable-requires
-is-bookable-requires c κs = search rules
+is_bookable-requires : tie.Need-is_bookable-requires
+is_bookable-requires c κs = search rules
 
-returns : tie.Need-returns-then-not-is_bookable
+returns-then-not-is_bookable : tie.Need-returns-then-not-is_bookable
 unfolding booked_totals
-returns c = simp (asked c.before ∙ not-true c.before.is_bookable.result c.if-not-is_bookable.true)
+returns-then-not-is_bookable c = simp (asked c.before ∙ not-true c.before.is_bookable.result c.if-not-is_bookable.true)
 
-magnitude-requires : tie.Need-magnitude-weight-requires
-magnitude-requires c κs = search rules
+magnitude-weight-requires : tie.Need-magnitude-weight-requires
+magnitude-weight-requires c κs = search rules
 
-add-t6 : tie.Need-overflow_add-result
-add-t6 c = let s = c.before.before.before.before in fits_of (omega (arith, found c.before, total_held s.args.t s.args.v (yes c.before.before)))
+overflow_add-result : tie.Need-overflow_add-result
+overflow_add-result c = let s = c.before.before.before.before in fits_of (omega (arith, found c.before, total_held s.args.t s.args.v (yes c.before.before)))
 
-add-t7 : tie.Need-overflow_add-result-2
-add-t7 c = let s = c.before.before.before.before.before in fits_of (omega (arith, count_held s.args.t s.args.v (yes c.before.before.before)))
+overflow_add-result-2 : tie.Need-overflow_add-result-2
+overflow_add-result-2 c = let s = c.before.before.before.before.before in fits_of (omega (arith, count_held s.args.t s.args.v (yes c.before.before.before)))
 
-returns-2 : tie.Need-returns
+returns : tie.Need-returns
 unfolding booked_totals
-returns-2 c = simp (yes c.before.before.before, found c.before.before, add-one)
+returns c = simp (yes c.before.before.before, found c.before.before, add-one)
 
 pub booked_totals_spec : {M : Type 1} → statement M
 booked_totals_spec =
-    tie.close (tie.spec is-bookable-requires returns magnitude-requires add-t6 add-t7 returns-2)
+    tie.close (tie.spec is_bookable-requires returns-then-not-is_bookable magnitude-weight-requires overflow_add-result overflow_add-result-2 returns)

@@ -32,26 +32,26 @@ sign s e = lt_is (arg s.ranges.v) (nat {w = w64} {n = 0} (lit< tt)) e
 found : (c : tie.After-magnitude-weight) → c.magnitude-weight.result ≡ nat_abs c.before.before.args.v
 found c = c.magnitude-weight.ensures ∙ ap nat_abs (to_z-of_z {w = w64} c.before.before.ranges.v)
 
-returns : tie.Need-returns-then-v-lt0
-returns c = let s = c.before in simp (below s.args.v (sign s c.if-v-lt0.true))
+returns-then-v-lt0 : tie.Need-returns-then-v-lt0
+returns-then-v-lt0 c = let s = c.before in simp (below s.args.v (sign s c.if-v-lt0.true))
 
-magnitude-requires : tie.Need-magnitude-weight-requires
-magnitude-requires c κs = search rules
+magnitude-weight-requires : tie.Need-magnitude-weight-requires
+magnitude-weight-requires c κs = search rules
 
-returns-2 : tie.Need-returns-then-weight-gt-TOTAL_LIMIT
-returns-2 c =
+returns-then-weight-gt-TOTAL_LIMIT : tie.Need-returns-then-weight-gt-TOTAL_LIMIT
+returns-then-weight-gt-TOTAL_LIMIT c =
     let s = c.before.before.before in
     simp
     (least s.args.v (sign s c.before.before.if-v-lt0.false), lt-leb (s.args.t.total + nat_abs s.args.v) total_limit (omega (arith, found c.before, c.if-weight-gt-TOTAL_LIMIT.true)))
 
-returns-3 : tie.Need-returns-then-weight-t
-returns-3 c =
+returns-then-weight-t : tie.Need-returns-then-weight-t
+returns-then-weight-t c =
     let s = c.before.before.before.before.before in
     simp
     (least s.args.v (sign s c.before.before.before.before.if-v-lt0.false), lt-leb (s.args.t.total + nat_abs s.args.v) total_limit (omega (arith, found c.before.before.before, c.if-weight-t.true)))
 
-returns-4 : tie.Need-returns
-returns-4 c =
+returns : tie.Need-returns
+returns c =
     let s = c.before.before.before.before.before.before in
     and_last
     (and_both
@@ -59,4 +59,4 @@ returns-4 c =
     (le-leb (s.args.t.total + nat_abs s.args.v) total_limit (omega (arith, found c.before.before.before.before, c.before.if-weight-t.false, c.before.before.before.if-weight-gt-TOTAL_LIMIT.false))))
 
 pub is_bookable_spec : {M : Type 1} → statement M
-is_bookable_spec = tie.close (tie.spec returns magnitude-requires returns-2 returns-3 returns-4)
+is_bookable_spec = tie.close (tie.spec returns-then-v-lt0 magnitude-weight-requires returns-then-weight-gt-TOTAL_LIMIT returns-then-weight-t returns)

@@ -4,11 +4,11 @@ use mir.Facts.{to_z-of_z}
 use Rattle.weight.proofs.is_overloaded.Statement.{statement}
 use Rattle.weight.proofs.is_overloaded.Tie as tie
 
-cast-result : tie.Need-overflow_cast-result
-cast-result c = search rules
+overflow_cast-result : tie.Need-overflow_cast-result
+overflow_cast-result c = search rules
 
-add-result : tie.Need-overflow_add-result
-add-result c = search rules
+overflow_add-result : tie.Need-overflow_add-result
+overflow_add-result c = search rules
 
 magnitude-requires : tie.Need-magnitude-requires
 magnitude-requires c κs = search rules
@@ -17,4 +17,4 @@ returns : tie.Need-returns
 returns c = simp (c.magnitude.ensures, to_z-of_z c.before.before.ranges.divisions)
 
 pub is_overloaded_spec : {M : Type 1} → statement M
-is_overloaded_spec = tie.close (tie.spec cast-result add-result magnitude-requires returns)
+is_overloaded_spec = tie.close (tie.spec overflow_cast-result overflow_add-result magnitude-requires returns)

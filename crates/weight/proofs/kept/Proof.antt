@@ -29,14 +29,14 @@ small c =
 small_fits : (c : tie.Then-x-lt-DISPLAY_PLAIN) → SFits w32 c.before.before.args.x
 small_fits c = fits_abs w32 (omega (arith, small c))
 
-sub-if1 : tie.Need-overflow_sub-t-3
-sub-if1 c = search rules
+overflow_sub-t-3 : tie.Need-overflow_sub-t-3
+overflow_sub-t-3 c = search rules
 
-cast-result : tie.Need-overflow_cast-result
-cast-result c = cast_need (arg c.before.before.ranges.x) (small_fits c)
+overflow_cast-result : tie.Need-overflow_cast-result
+overflow_cast-result c = cast_need (arg c.before.before.ranges.x) (small_fits c)
 
-returns : tie.Need-returns-then-x-lt-DISPLAY_PLAIN
-returns c =
+returns-then-x-lt-DISPLAY_PLAIN : tie.Need-returns-then-x-lt-DISPLAY_PLAIN
+returns-then-x-lt-DISPLAY_PLAIN c =
     let s = c.before.before in
     (cast (arg s.ranges.x) (small_fits c)).read ∙ sym (limit_plain display_limit s.args.x (omega (arith, small c)))
 
@@ -50,11 +50,11 @@ fits s = fits_abs w32 (omega (arith, limit_abs display_limit s.args.x))
 limited-requires : tie.Need-limited-requires
 limited-requires c κs = search rules
 
-cast-result-2 : tie.Need-overflow_cast-result-2
-cast-result-2 c = cast_need (stopped c) (fits c.before.before)
+overflow_cast-result-2 : tie.Need-overflow_cast-result-2
+overflow_cast-result-2 c = cast_need (stopped c) (fits c.before.before)
 
-returns-2 : tie.Need-returns
-returns-2 c = (cast (stopped c) (fits c.before.before)).read
+returns : tie.Need-returns
+returns c = (cast (stopped c) (fits c.before.before)).read
 
 pub kept_spec : {M : Type 1} → statement M
-kept_spec = tie.close (tie.spec sub-if1 cast-result returns limited-requires cast-result-2 returns-2)
+kept_spec = tie.close (tie.spec overflow_sub-t-3 overflow_cast-result returns-then-x-lt-DISPLAY_PLAIN limited-requires overflow_cast-result-2 returns)

@@ -11,21 +11,21 @@ use Rattle.weight.proofs.weigh.Tie as tie
 enum_told : tie.Need-enum_told-1
 enum_told c = search rules
 
-is-stable-requires : tie.Need-is_stable-stable-requires
-is-stable-requires c κs = search rules
+is_stable-stable-requires : tie.Need-is_stable-stable-requires
+is_stable-stable-requires c κs = search rules
 
-enum-known-raw : tie.Need-enum_known-raw
-enum-known-raw c = search rules
+enum_known-raw : tie.Need-enum_known-raw
+enum_known-raw c = search rules
 
-weigh-good-requires : tie.Need-weigh_good-requires
-weigh-good-requires c κs = search rules
+weigh_good-requires : tie.Need-weigh_good-requires
+weigh_good-requires c κs = search rules
 
-returns : tie.Need-returns-in-Bad
+returns-in-Bad : tie.Need-returns-in-Bad
 unfolding weigh_of
-returns c = simp (c.before.before.enum_told-1.given.1, c.is_stable-stable.ensures)
+returns-in-Bad c = simp (c.before.before.enum_told-1.given.1, c.is_stable-stable.ensures)
 
-returns-2 : tie.Need-returns-in-Tenths
-returns-2 c =
+returns-in-Tenths : tie.Need-returns-in-Tenths
+returns-in-Tenths c =
     let g = c.before.before in
     let f : SFits w32 g.raw-1.given.0.0 = search sfits_of in
     simp (c.weigh_good.ensures, to_z-of_z f, g.raw-1.given.1)
@@ -33,4 +33,4 @@ returns-2 c =
 pub weigh_spec : {M : Type 1} → statement M
 weigh_spec =
     tie.close
-    (tie.spec enum_told is-stable-requires enum-known-raw weigh-good-requires returns returns-2)
+    (tie.spec enum_told is_stable-stable-requires enum_known-raw weigh_good-requires returns-in-Bad returns-in-Tenths)

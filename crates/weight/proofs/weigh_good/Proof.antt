@@ -57,34 +57,34 @@ net c =
     be (got c.kept-net.result c.kept-net.type-inv)
     (c.kept-net.ensures ∙ ap kept_of ((got {w = w64} d.difference.result d.difference.type-inv).read ∙ d.difference.ensures ∙ (λ i. (gross d.before.before).read i -ℤ to_z-of_z (tare_fits s) i)))
 
-difference-requires : tie.Need-difference-fine-requires
-difference-requires c κs = search rules
+difference-fine-requires : tie.Need-difference-fine-requires
+difference-fine-requires c κs = search rules
 
-nearest-requires : tie.Need-nearest-divisions-requires
-nearest-requires c κs = search rules
+nearest-divisions-requires : tie.Need-nearest-divisions-requires
+nearest-divisions-requires c κs = search rules
 
-cast-kept : tie.Need-overflow_cast-range
-cast-kept c = search rules
+overflow_cast-range : tie.Need-overflow_cast-range
+overflow_cast-range c = search rules
 
-mul-kept : tie.Need-overflow_mul-divisions
-mul-kept c =
+overflow_mul-divisions : tie.Need-overflow_mul-divisions
+overflow_mul-divisions c =
     let s = c.before.before.before.before.before in
     mul_need (divisions c.before.before) (division s) (product_fits s)
 
-kept-requires : tie.Need-kept-gross-requires
-kept-requires c κs = search rules
+kept-gross-requires : tie.Need-kept-gross-requires
+kept-gross-requires c κs = search rules
 
-difference-requires-2 : tie.Need-difference-requires
-difference-requires-2 c κs = search rules
+difference-requires : tie.Need-difference-requires
+difference-requires c κs = search rules
 
-kept-requires-2 : tie.Need-kept-net-requires
-kept-requires-2 c κs = search rules
+kept-net-requires : tie.Need-kept-net-requires
+kept-net-requires c κs = search rules
 
-is-overloaded-requires : tie.Need-is_overloaded-overload-requires
-is-overloaded-requires c κs = search rules
+is_overloaded-overload-requires : tie.Need-is_overloaded-overload-requires
+is_overloaded-overload-requires c κs = search rules
 
-is-stable-requires : tie.Need-is_stable-stable-requires
-is-stable-requires c κs = search rules
+is_stable-stable-requires : tie.Need-is_stable-stable-requires
+is_stable-stable-requires c κs = search rules
 
 returns : tie.Need-returns
 unfolding weigh_of
@@ -107,13 +107,13 @@ pub weigh_good_spec : {M : Type 1} → statement M
 weigh_good_spec =
     tie.close
     (tie.spec
+    difference-fine-requires
+    nearest-divisions-requires
+    overflow_cast-range
+    overflow_mul-divisions
+    kept-gross-requires
     difference-requires
-    nearest-requires
-    cast-kept
-    mul-kept
-    kept-requires
-    difference-requires-2
-    kept-requires-2
-    is-overloaded-requires
-    is-stable-requires
+    kept-net-requires
+    is_overloaded-overload-requires
+    is_stable-stable-requires
     returns)

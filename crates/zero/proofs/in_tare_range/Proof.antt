@@ -13,25 +13,25 @@ use Rattle.zero.proofs.in_tare_range.Tie as tie
 low : (c : tie.After-at_most) → c.at_most.result ≡ le_z (pos 0) c.before.args.divisions
 low c = c.at_most.ensures ∙ ap (le_z (pos 0)) (to_z-of_z c.before.ranges.divisions)
 
-at-most-requires : tie.Need-at_most-requires
-at-most-requires c κs = search rules
+at_most-requires : tie.Need-at_most-requires
+at_most-requires c κs = search rules
 
-cast-at-most : tie.Need-overflow_cast-r
-cast-at-most c = search rules
+overflow_cast-r : tie.Need-overflow_cast-r
+overflow_cast-r c = search rules
 
-at-most-requires-2 : tie.Need-at_most-requires-then-at_most
-at-most-requires-2 c κs = search rules
+at_most-requires-then-at_most : tie.Need-at_most-requires-then-at_most
+at_most-requires-then-at_most c κs = search rules
 
-returns : tie.Need-returns-then-at_most
-returns c =
+returns-then-at_most : tie.Need-returns-then-at_most
+returns-then-at_most c =
     let t = c.before.before in
     let s = t.before.before in
     let top : to_z w64 s.args.r.capacity ≡ pos s.args.r.capacity = to_z_pos w64 (omega arith) in
     simp (c.at_most-then-at_most.ensures, to_z-of_z s.ranges.divisions, top, sym (low t.before) ∙ t.if-at_most.true)
 
-returns-2 : tie.Need-returns-else-at_most
-returns-2 c = simp (c.if-at_most.false, sym (low c.before) ∙ c.if-at_most.false)
+returns-else-at_most : tie.Need-returns-else-at_most
+returns-else-at_most c = simp (c.if-at_most.false, sym (low c.before) ∙ c.if-at_most.false)
 
 pub in_tare_range_spec : {M : Type 1} → statement M
 in_tare_range_spec =
-    tie.close (tie.spec at-most-requires cast-at-most at-most-requires-2 returns returns-2)
+    tie.close (tie.spec at_most-requires overflow_cast-r at_most-requires-then-at_most returns-then-at_most returns-else-at_most)

@@ -14,23 +14,23 @@ use Rattle.zero.proofs.in_zero_range.Tie as tie
 size : (c : tie.After-magnitude) → c.magnitude.result ≡ nat_abs c.before.args.raw
 size c = simp (c.magnitude.ensures, (cast (arg c.before.ranges.raw) (wider c.before.ranges.raw)).read)
 
-cast-magnitude : tie.Need-overflow_cast-raw
-cast-magnitude c = cast_need (arg c.ranges.raw) (wider c.ranges.raw)
+overflow_cast-raw : tie.Need-overflow_cast-raw
+overflow_cast-raw c = cast_need (arg c.ranges.raw) (wider c.ranges.raw)
 
 magnitude-requires : tie.Need-magnitude-requires
 magnitude-requires c κs = search rules
 
-mul-result : tie.Need-overflow_mul-result
-mul-result c = fits_of (omega (arith, size c, abs_fits w32 c.before.ranges.raw))
+overflow_mul-result : tie.Need-overflow_mul-result
+overflow_mul-result c = fits_of (omega (arith, size c, abs_fits w32 c.before.ranges.raw))
 
-cast-result : tie.Need-overflow_cast-result
-cast-result c = search rules
+overflow_cast-result : tie.Need-overflow_cast-result
+overflow_cast-result c = search rules
 
-cast-result-2 : tie.Need-overflow_cast-result-2
-cast-result-2 c = search rules
+overflow_cast-result-2 : tie.Need-overflow_cast-result-2
+overflow_cast-result-2 c = search rules
 
-mul-result-2 : tie.Need-overflow_mul-result-2
-mul-result-2 c = fits_of (N.lt_of_le_of_lt (N.mul-le-mul {n₂ = 65535} {m₂ = 255} (omega arith) (omega arith)) (lit< tt))
+overflow_mul-result-2 : tie.Need-overflow_mul-result-2
+overflow_mul-result-2 c = fits_of (N.lt_of_le_of_lt (N.mul-le-mul {n₂ = 65535} {m₂ = 255} (omega arith) (omega arith)) (lit< tt))
 
 returns : tie.Need-returns
 returns c = cc (size c.before.before)
@@ -39,10 +39,10 @@ pub in_zero_range_spec : {M : Type 1} → statement M
 in_zero_range_spec =
     tie.close
     (tie.spec
-    cast-magnitude
+    overflow_cast-raw
     magnitude-requires
-    mul-result
-    cast-result
-    cast-result-2
-    mul-result-2
+    overflow_mul-result
+    overflow_cast-result
+    overflow_cast-result-2
+    overflow_mul-result-2
     returns)

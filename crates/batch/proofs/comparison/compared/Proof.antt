@@ -20,25 +20,25 @@ none = nat (omega arith)
 minus : (s : tie.Start) → SFits w64 (pos 0 -ℤ s.args.x.net)
 minus s = diff_fits {x = pos 0} {y = s.args.x.net} (sfits_lit tt) (net s)
 
-cast-net : tie.Need-overflow_cast-net
-cast-net c = search machine
+overflow_cast-net : tie.Need-overflow_cast-net
+overflow_cast-net c = search machine
 
 enum_told : tie.Need-enum_told-1
 enum_told c = search rules
 
-enum-told-2 : tie.Need-enum_told-in-Loss
-enum-told-2 c = search rules
+enum_told-in-Loss : tie.Need-enum_told-in-Loss
+enum_told-in-Loss c = search rules
 
-returns : tie.Need-returns-in-Normal
-returns c = (widened (net c.before.before.before.before)).read ∙ simp c.enum_told-1.given.1
+returns-in-Normal : tie.Need-returns-in-Normal
+returns-in-Normal c = (widened (net c.before.before.before.before)).read ∙ simp c.enum_told-1.given.1
 
-returns-2 : tie.Need-returns-in-Loss
-returns-2 c =
+returns-in-Loss : tie.Need-returns-in-Loss
+returns-in-Loss c =
     let s = c.before.before.before.before in
     (sub none (widened (net s)) (minus s)).read ∙ +ℤ_idl (neg_ℤ s.args.x.net) ∙ simp c.enum_told-in-Loss-1.given.1
 
-sub-result : tie.Need-overflow_sub-result
-sub-result c = let s = c.before.before.before.before in sub_need none (widened (net s)) (minus s)
+overflow_sub-result : tie.Need-overflow_sub-result
+overflow_sub-result c = let s = c.before.before.before.before in sub_need none (widened (net s)) (minus s)
 
 pub compared_spec : {M : Type 1} → statement M
-compared_spec = tie.close (tie.spec cast-net enum_told enum-told-2 sub-result returns returns-2)
+compared_spec = tie.close (tie.spec overflow_cast-net enum_told enum_told-in-Loss overflow_sub-result returns-in-Normal returns-in-Loss)

@@ -7,17 +7,17 @@ use Rattle.batch.proofs.Laws.{more_fits, more_is}
 use Rattle.batch.proofs.comparison.is_over.Statement.{statement}
 use Rattle.batch.proofs.comparison.is_over.Tie as tie
 
-cast-result : tie.Need-overflow_cast-result
-cast-result c = search rules
+overflow_cast-result : tie.Need-overflow_cast-result
+overflow_cast-result c = search rules
 
-cast-result-2 : tie.Need-overflow_cast-result-2
-cast-result-2 c = search rules
+overflow_cast-result-2 : tie.Need-overflow_cast-result-2
+overflow_cast-result-2 c = search rules
 
-add-result : tie.Need-overflow_add-result
-add-result c = more_fits c.before.before.args.p.target c.before.before.args.p.over (omega arith) (omega arith)
+overflow_add-result : tie.Need-overflow_add-result
+overflow_add-result c = more_fits c.before.before.args.p.target c.before.before.args.p.over (omega arith) (omega arith)
 
 returns : tie.Need-returns
 returns c = λ i. lt_z (more_is c.before.before.args.p.target c.before.before.args.p.over (omega arith) (omega arith) i) (to_z-of_z c.before.before.ranges.v i)
 
 pub is_over_spec : {M : Type 1} → statement M
-is_over_spec = tie.close (tie.spec cast-result cast-result-2 add-result returns)
+is_over_spec = tie.close (tie.spec overflow_cast-result overflow_cast-result-2 overflow_add-result returns)

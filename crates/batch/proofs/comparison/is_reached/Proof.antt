@@ -7,17 +7,17 @@ use Rattle.batch.proofs.Laws.{less_fits, less_is}
 use Rattle.batch.proofs.comparison.is_reached.Statement.{statement}
 use Rattle.batch.proofs.comparison.is_reached.Tie as tie
 
-cast-result : tie.Need-overflow_cast-result
-cast-result c = search rules
+overflow_cast-result : tie.Need-overflow_cast-result
+overflow_cast-result c = search rules
 
-cast-result-2 : tie.Need-overflow_cast-result-2
-cast-result-2 c = search rules
+overflow_cast-result-2 : tie.Need-overflow_cast-result-2
+overflow_cast-result-2 c = search rules
 
-sub-result : tie.Need-overflow_sub-result
-sub-result c = less_fits c.before.args.p.target c.before.args.n (omega arith) (omega arith)
+overflow_sub-result : tie.Need-overflow_sub-result
+overflow_sub-result c = less_fits c.before.args.p.target c.before.args.n (omega arith) (omega arith)
 
 returns : tie.Need-returns
 returns c = λ i. le_z (less_is c.before.args.p.target c.before.args.n (omega arith) (omega arith) i) (to_z-of_z c.before.ranges.v i)
 
 pub is_reached_spec : {M : Type 1} → statement M
-is_reached_spec = tie.close (tie.spec cast-result cast-result-2 sub-result returns)
+is_reached_spec = tie.close (tie.spec overflow_cast-result overflow_cast-result-2 overflow_sub-result returns)

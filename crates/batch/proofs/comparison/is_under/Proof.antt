@@ -7,17 +7,17 @@ use Rattle.batch.proofs.Laws.{less_fits, less_is}
 use Rattle.batch.proofs.comparison.is_under.Statement.{statement}
 use Rattle.batch.proofs.comparison.is_under.Tie as tie
 
-cast-result : tie.Need-overflow_cast-result
-cast-result c = search rules
+overflow_cast-result : tie.Need-overflow_cast-result
+overflow_cast-result c = search rules
 
-cast-result-2 : tie.Need-overflow_cast-result-2
-cast-result-2 c = search rules
+overflow_cast-result-2 : tie.Need-overflow_cast-result-2
+overflow_cast-result-2 c = search rules
 
-sub-result : tie.Need-overflow_sub-result
-sub-result c = less_fits c.before.before.args.p.target c.before.before.args.p.under (omega arith) (omega arith)
+overflow_sub-result : tie.Need-overflow_sub-result
+overflow_sub-result c = less_fits c.before.before.args.p.target c.before.before.args.p.under (omega arith) (omega arith)
 
 returns : tie.Need-returns
 returns c = λ i. lt_z (to_z-of_z c.before.before.ranges.v i) (less_is c.before.before.args.p.target c.before.before.args.p.under (omega arith) (omega arith) i)
 
 pub is_under_spec : {M : Type 1} → statement M
-is_under_spec = tie.close (tie.spec cast-result cast-result-2 sub-result returns)
+is_under_spec = tie.close (tie.spec overflow_cast-result overflow_cast-result-2 overflow_sub-result returns)

@@ -7,27 +7,27 @@ use Rattle.batch.proofs.StageLaws.{emptying_left, delay_to}
 use Rattle.batch.proofs.discharge.discharged.Statement.{statement}
 use Rattle.batch.proofs.discharge.discharged.Tie as tie
 
-enum-known-stage : tie.Need-enum_known-stage
-enum-known-stage c = search rules
+enum_known-stage : tie.Need-enum_known-stage
+enum_known-stage c = search rules
 
 emptied-requires : tie.Need-emptied-requires
 emptied-requires c κs = emptying_left c.before.args.q.stage-1 c.in_default.keys2 c.before.requires
 
-returns : tie.Need-returns-in_default
-returns c = λ s v. simp (to_z-of_z c.before.before.ranges.gross) at (c.emptied.ensures s v)
+returns-in_default : tie.Need-returns-in_default
+returns-in_default c = λ s v. simp (to_z-of_z c.before.before.ranges.gross) at (c.emptied.ensures s v)
 
 wait-requires : tie.Need-wait-requires
 wait-requires c κs = search rules
 
-enum-known-u : tie.Need-enum_known-u
-enum-known-u c = search rules
+enum_known-u : tie.Need-enum_known-u
+enum_known-u c = search rules
 
 to-requires : tie.Need-to-requires
 to-requires c κs = search rules
 
-returns-2 : tie.Need-returns-in-Still
+returns-in-Still : tie.Need-returns-in-Still
 unfolding move_of
-returns-2 c = λ s v.
+returns-in-Still c = λ s v.
     let w = c.before.before.before.before in
     let g = w.before.before.stage-1.given.1 in
     c.to.ensures ∙ delay_to _ _ _ _ refl _ g refl refl refl _ (simp (sym w.wait.ensures ∙ c.before.before.u-1.given.1))
@@ -35,12 +35,12 @@ returns-2 c = λ s v.
 enum_told : tie.Need-enum_told-1
 enum_told c = search rules
 
-to-requires-2 : tie.Need-to-requires-in-Over
-to-requires-2 c κs = search rules
+to-requires-in-Over : tie.Need-to-requires-in-Over
+to-requires-in-Over c κs = search rules
 
-returns-3 : tie.Need-returns-in-Over
+returns-in-Over : tie.Need-returns-in-Over
 unfolding move_of
-returns-3 c = λ s v.
+returns-in-Over c = λ s v.
     let w = c.before.before.before in
     let g = w.before.before.stage-1.given.1 in
     c.to-in-Over.ensures ∙ delay_to _ _ _ _ refl _ g refl refl refl _ (simp (sym w.wait.ensures ∙ c.before.enum_told-1.given.1))
@@ -49,13 +49,13 @@ pub discharged_spec : {M : Type 1} → statement M
 discharged_spec =
     tie.close
     (tie.spec
-    enum-known-stage
+    enum_known-stage
     emptied-requires
-    returns
+    returns-in_default
     wait-requires
-    enum-known-u
+    enum_known-u
     to-requires
-    returns-2
+    returns-in-Still
     enum_told
-    to-requires-2
-    returns-3)
+    to-requires-in-Over
+    returns-in-Over)

@@ -29,35 +29,35 @@ moves k s v g m = empty-to _ _ _ _ refl (start k).requires k.before.if-b-q.false
 fail-requires : tie.Need-fail-requires
 fail-requires c κs = search rules
 
-returns : tie.Need-returns-then-b-q
-returns c = λ s v. c.fail.ensures ∙ empty-slow _ _ _ _ refl c.before.before.before.before.requires c.before.if-b-q.true
+returns-then-b-q : tie.Need-returns-then-b-q
+returns-then-b-q c = λ s v. c.fail.ensures ∙ empty-slow _ _ _ _ refl c.before.before.before.before.requires c.before.if-b-q.true
 
-add-clock : tie.Need-overflow_add-clock
-add-clock c = record { fits = omega (arith, c.before.if-b-q.false, c.before.before.before.before.well-formed.0.1.1.1.1.1.1.1.1.1.0) }
+overflow_add-clock : tie.Need-overflow_add-clock
+overflow_add-clock c = record { fits = omega (arith, c.before.if-b-q.false, c.before.before.before.before.well-formed.0.1.1.1.1.1.1.1.1.1.0) }
 
-enum-known-stage : tie.Need-enum_known-stage
-enum-known-stage c = search rules
+enum_known-stage : tie.Need-enum_known-stage
+enum_known-stage c = search rules
 
-is-at-near-requires : tie.Need-is_at_near-requires
-is-at-near-requires c κs = search rules
+is_at_near-requires : tie.Need-is_at_near-requires
+is_at_near-requires c κs = search rules
 
 to-requires : tie.Need-to-requires
 to-requires c κs = search rules
 
-returns-2 : tie.Need-returns-then-is_at_near
+returns-then-is_at_near : tie.Need-returns-then-is_at_near
 unfolding move_of
-returns-2 c = λ s v.
+returns-then-is_at_near c = λ s v.
     let m = c.before.before.before in
     let k = m.before in
     let e = simp (to_z-of_z (start k).ranges.gross) at c.before.before.is_at_near.ensures in
     c.to.ensures ∙ moves k s v _ (simp (c.before.if-is_at_near.true, ← e, open_left (start k).args.q.stage-1 m.in_default.keys2 (start k).requires))
 
-to-requires-2 : tie.Need-to-requires-in_default
-to-requires-2 c κs = search rules
+to-requires-in_default : tie.Need-to-requires-in_default
+to-requires-in_default c κs = search rules
 
-returns-3 : tie.Need-returns-in_default
+returns-in_default : tie.Need-returns-in_default
 unfolding move_of
-returns-3 c = λ s v.
+returns-in_default c = λ s v.
     let m = c.before.before.before in
     let k = m.before in
     let e = simp (to_z-of_z (start k).ranges.gross) at c.before.before.is_at_near.ensures in
@@ -66,15 +66,15 @@ returns-3 c = λ s v.
 wait-requires : tie.Need-wait-requires
 wait-requires c κs = search rules
 
-enum-known-u : tie.Need-enum_known-u
-enum-known-u c = search rules
+enum_known-u : tie.Need-enum_known-u
+enum_known-u c = search rules
 
-to-requires-3 : tie.Need-to-requires-in-Still
-to-requires-3 c κs = search rules
+to-requires-in-Still : tie.Need-to-requires-in-Still
+to-requires-in-Still c κs = search rules
 
-returns-4 : tie.Need-returns-in-Still
+returns-in-Still : tie.Need-returns-in-Still
 unfolding move_of
-returns-4 c = λ s v.
+returns-in-Still c = λ s v.
     let w = c.before.before.before.before in
     let g = w.before.before in
     c.to-in-Still.ensures ∙ moves g.before.before s v _ (simp (sym w.wait.ensures ∙ c.before.before.u-1.given.1, g.stage-1.given.1))
@@ -82,12 +82,12 @@ returns-4 c = λ s v.
 enum_told : tie.Need-enum_told-1
 enum_told c = search rules
 
-to-requires-4 : tie.Need-to-requires-in-Over
-to-requires-4 c κs = search rules
+to-requires-in-Over : tie.Need-to-requires-in-Over
+to-requires-in-Over c κs = search rules
 
-returns-5 : tie.Need-returns-in-Over
+returns-in-Over : tie.Need-returns-in-Over
 unfolding move_of
-returns-5 c = λ s v.
+returns-in-Over c = λ s v.
     let w = c.before.before.before in
     let g = w.before.before in
     let k = g.before.before in
@@ -98,18 +98,18 @@ emptied_spec =
     tie.close
     (tie.spec
     fail-requires
-    returns
-    add-clock
-    enum-known-stage
-    is-at-near-requires
+    returns-then-b-q
+    overflow_add-clock
+    enum_known-stage
+    is_at_near-requires
     to-requires
-    returns-2
-    to-requires-2
-    returns-3
+    returns-then-is_at_near
+    to-requires-in_default
+    returns-in_default
     wait-requires
-    enum-known-u
-    to-requires-3
-    returns-4
+    enum_known-u
+    to-requires-in-Still
+    returns-in-Still
     enum_told
-    to-requires-4
-    returns-5)
+    to-requires-in-Over
+    returns-in-Over)

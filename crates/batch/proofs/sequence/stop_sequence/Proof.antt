@@ -4,24 +4,24 @@ use Rattle.outline.specs.Stages.{stop_sequence}
 use Rattle.batch.proofs.sequence.stop_sequence.Statement.{statement}
 use Rattle.batch.proofs.sequence.stop_sequence.Tie as tie
 
-is-idle-requires : tie.Need-is_idle-requires
-is-idle-requires c κs = search rules
+is_idle-requires : tie.Need-is_idle-requires
+is_idle-requires c κs = search rules
 
-returns : tie.Need-returns-then-is_idle
+returns-then-is_idle : tie.Need-returns-then-is_idle
 unfolding stop_sequence
-returns c = simp (c.if-is_idle.true, ← c.before.is_idle.ensures)
+returns-then-is_idle c = simp (c.if-is_idle.true, ← c.before.is_idle.ensures)
 
-stop-error-requires : tie.Need-stop_error-requires
-stop-error-requires c κs = search rules
+stop_error-requires : tie.Need-stop_error-requires
+stop_error-requires c κs = search rules
 
 failed-requires : tie.Need-failed-requires
 failed-requires c κs = search rules
 
-returns-2 : tie.Need-returns
+returns : tie.Need-returns
 unfolding stop_sequence
-returns-2 c =
+returns c =
     let e = c.before in
     simp (c.failed.ensures, e.stop_error_lem.ensures, e.before.if-is_idle.false, ← e.before.before.is_idle.ensures)
 
 pub stop_sequence_spec : {M : Type 1} → statement M
-stop_sequence_spec = tie.close (tie.spec is-idle-requires returns stop-error-requires failed-requires returns-2)
+stop_sequence_spec = tie.close (tie.spec is_idle-requires returns-then-is_idle stop_error-requires failed-requires returns)

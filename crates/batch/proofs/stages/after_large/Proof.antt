@@ -3,11 +3,11 @@ use borrow.Author.Tests.{eq-eqb, ne_eqb}
 use Rattle.batch.proofs.stages.after_large.Statement.{statement}
 use Rattle.batch.proofs.stages.after_large.Tie as tie
 
-returns : tie.Need-returns-then-p-eq0
-returns c = simp (eq-eqb _ _ c.if-p-eq0.true)
+returns-then-p-eq0 : tie.Need-returns-then-p-eq0
+returns-then-p-eq0 c = simp (eq-eqb _ _ c.if-p-eq0.true)
 
-returns-2 : tie.Need-returns-else-p-eq0
-returns-2 c = simp (ne_eqb _ _ c.if-p-eq0.false)
+returns-else-p-eq0 : tie.Need-returns-else-p-eq0
+returns-else-p-eq0 c = simp (ne_eqb _ _ c.if-p-eq0.false)
 
 pub after_large_spec : {M : Type 1} → statement M
-after_large_spec = tie.close (tie.spec returns returns-2)
+after_large_spec = tie.close (tie.spec returns-then-p-eq0 returns-else-p-eq0)

@@ -9,31 +9,31 @@ use Rattle.batch.proofs.stages.after_start.Tie as tie
 fail-requires : tie.Need-fail-requires
 fail-requires c κs = search rules
 
-returns : tie.Need-returns-then-p-eq0
+returns-then-p-eq0 : tie.Need-returns-then-p-eq0
 unfolding after_start land_of
-returns c = λ s x. simp (c.fail.ensures, eq-eqb _ _ c.before.if-p-eq0.true)
+returns-then-p-eq0 c = λ s x. simp (c.fail.ensures, eq-eqb _ _ c.before.if-p-eq0.true)
 
-is-reached-requires : tie.Need-is_reached-requires
-is-reached-requires c κs = search rules
+is_reached-requires : tie.Need-is_reached-requires
+is_reached-requires c κs = search rules
 
-fail-requires-2 : tie.Need-fail-requires-then-is_reached
-fail-requires-2 c κs = search rules
+fail-requires-then-is_reached : tie.Need-fail-requires-then-is_reached
+fail-requires-then-is_reached c κs = search rules
 
-returns-2 : tie.Need-returns-then-is_reached
+returns-then-is_reached : tie.Need-returns-then-is_reached
 unfolding after_start land_of
-returns-2 c = λ s x.
+returns-then-is_reached c = λ s x.
     let e = simp (to_z-of_z c.before.before.before.before.before.ranges.v) at c.before.before.is_reached.ensures in
     simp (c.fail-then-is_reached.ensures, c.before.if-is_reached.true, ← e, ne_eqb _ _ c.before.before.before.if-p-eq0.false)
 
-first-flow-requires : tie.Need-first_flow-requires
-first-flow-requires c κs = search rules
+first_flow-requires : tie.Need-first_flow-requires
+first_flow-requires c κs = search rules
 
 to-requires : tie.Need-to-requires
 to-requires c κs = search rules
 
-returns-3 : tie.Need-returns
+returns : tie.Need-returns
 unfolding after_start land_of
-returns-3 c = λ s x.
+returns c = λ s x.
     let a = c.before.before.before.before.before.before in
     let e = simp (to_z-of_z a.ranges.v) at c.before.before.before.is_reached.ensures in
     simp (c.to.ensures, c.before.first_flow_lem.ensures, c.before.before.if-is_reached.false, ← e, ne_eqb _ _ c.before.before.before.before.if-p-eq0.false, a.requires)
@@ -43,10 +43,10 @@ after_start_spec =
     tie.close
     (tie.spec
     fail-requires
-    returns
-    is-reached-requires
-    fail-requires-2
-    returns-2
-    first-flow-requires
+    returns-then-p-eq0
+    is_reached-requires
+    fail-requires-then-is_reached
+    returns-then-is_reached
+    first_flow-requires
     to-requires
-    returns-3)
+    returns)

@@ -7,27 +7,27 @@ use Rattle.batch.proofs.StageLaws.{flow_left, delay_to, start_over}
 use Rattle.batch.proofs.stages.batched.Statement.{statement}
 use Rattle.batch.proofs.stages.batched.Tie as tie
 
-enum-known-stage : tie.Need-enum_known-stage
-enum-known-stage c = search rules
+enum_known-stage : tie.Need-enum_known-stage
+enum_known-stage c = search rules
 
 flowed-requires : tie.Need-flowed-requires
 flowed-requires c κs = flow_left c.before.args.q.stage-1 c.in_default.keys2 c.before.requires.0 c.before.requires.1
 
-returns : tie.Need-returns-in_default
-returns c = λ x. simp (to_z-of_z c.before.before.ranges.v) at (c.flowed.ensures x)
+returns-in_default : tie.Need-returns-in_default
+returns-in_default c = λ x. simp (to_z-of_z c.before.before.ranges.v) at (c.flowed.ensures x)
 
 wait-requires : tie.Need-wait-requires
 wait-requires c κs = search rules
 
-enum-known-u : tie.Need-enum_known-u
-enum-known-u c = search rules
+enum_known-u : tie.Need-enum_known-u
+enum_known-u c = search rules
 
 to-requires : tie.Need-to-requires
 to-requires c κs = search rules
 
-returns-2 : tie.Need-returns-in-Still
+returns-in-Still : tie.Need-returns-in-Still
 unfolding move_of
-returns-2 c = λ x.
+returns-in-Still c = λ x.
     let w = c.before.before.before.before in
     let g = w.before.before.stage-1.given.1 in
     c.to.ensures ∙ delay_to _ _ _ _ refl _ g refl refl refl _ (simp (sym w.wait.ensures ∙ c.before.before.u-1.given.1))
@@ -35,11 +35,11 @@ returns-2 c = λ x.
 enum_told : tie.Need-enum_told-1
 enum_told c = search rules
 
-after-start-requires : tie.Need-after_start-requires
-after-start-requires c κs = simp c.before.before.before.before.stage-1.given.1
+after_start-requires : tie.Need-after_start-requires
+after_start-requires c κs = simp c.before.before.before.before.stage-1.given.1
 
-returns-3 : tie.Need-returns-in-Over
-returns-3 c = λ x.
+returns-in-Over : tie.Need-returns-in-Over
+returns-in-Over c = λ x.
     let w = c.before.before.before in
     let g = w.before.before.stage-1.given.1 in
     let a = w.before.before.before.before in
@@ -50,13 +50,13 @@ pub batched_spec : {M : Type 1} → statement M
 batched_spec =
     tie.close
     (tie.spec
-    enum-known-stage
+    enum_known-stage
     flowed-requires
-    returns
+    returns-in_default
     wait-requires
-    enum-known-u
+    enum_known-u
     to-requires
-    returns-2
+    returns-in-Still
     enum_told
-    after-start-requires
-    returns-3)
+    after_start-requires
+    returns-in-Over)

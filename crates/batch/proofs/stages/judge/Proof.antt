@@ -5,31 +5,31 @@ use mir.Facts.{to_z-of_z}
 use Rattle.batch.proofs.stages.judge.Statement.{statement}
 use Rattle.batch.proofs.stages.judge.Tie as tie
 
-is-over-requires : tie.Need-is_over-requires
-is-over-requires c κs = search rules
+is_over-requires : tie.Need-is_over-requires
+is_over-requires c κs = search rules
 
-returns : tie.Need-returns-then-is_over
+returns-then-is_over : tie.Need-returns-then-is_over
 unfolding judged_of
-returns c = λ s x.
+returns-then-is_over c = λ s x.
     let e = simp (to_z-of_z c.before.before.ranges.v) at c.before.is_over.ensures in
     simp (c.if-is_over.true, ← e)
 
-is-under-requires : tie.Need-is_under-requires
-is-under-requires c κs = search rules
+is_under-requires : tie.Need-is_under-requires
+is_under-requires c κs = search rules
 
-returns-2 : tie.Need-returns-then-is_under
+returns-then-is_under : tie.Need-returns-then-is_under
 unfolding judged_of
-returns-2 c = λ s x.
+returns-then-is_under c = λ s x.
     let e = simp (to_z-of_z c.before.before.before.before.ranges.v) at c.before.is_under.ensures in
     let d = simp (to_z-of_z c.before.before.before.before.ranges.v) at c.before.before.before.is_over.ensures in
     simp (c.if-is_under.true, ← e, c.before.before.if-is_over.false, ← d)
 
-returns-3 : tie.Need-returns
+returns : tie.Need-returns
 unfolding judged_of
-returns-3 c = λ s x.
+returns c = λ s x.
     let e = simp (to_z-of_z c.before.before.before.before.ranges.v) at c.before.is_under.ensures in
     let d = simp (to_z-of_z c.before.before.before.before.ranges.v) at c.before.before.before.is_over.ensures in
     simp (c.if-is_under.false, ← e, c.before.before.if-is_over.false, ← d)
 
 pub judge_spec : {M : Type 1} → statement M
-judge_spec = tie.close (tie.spec is-over-requires returns is-under-requires returns-2 returns-3)
+judge_spec = tie.close (tie.spec is_over-requires returns-then-is_over is_under-requires returns-then-is_under returns)

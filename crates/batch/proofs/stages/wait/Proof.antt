@@ -8,20 +8,20 @@ use Rattle.outline.specs.Stages.{wait_of}
 use Rattle.batch.proofs.stages.wait.Statement.{statement}
 use Rattle.batch.proofs.stages.wait.Tie as tie
 
-returns : tie.Need-returns-then-n-t
+returns-then-n-t : tie.Need-returns-then-n-t
 unfolding wait_of
-returns c = simp (le-leb c.before.args.n (suc c.before.args.t) (omega arith))
+returns-then-n-t c = simp (le-leb c.before.args.n (suc c.before.args.t) (omega arith))
 
-returns-2 : tie.Need-returns-then-n-next
+returns-then-n-next : tie.Need-returns-then-n-next
 unfolding wait_of
-returns-2 c = let s = c.before.before in simp (le-leb s.args.n (suc s.args.t) (omega arith))
+returns-then-n-next c = let s = c.before.before in simp (le-leb s.args.n (suc s.args.t) (omega arith))
 
-returns-3 : tie.Need-returns-else-n-next
+returns-else-n-next : tie.Need-returns-else-n-next
 unfolding wait_of
-returns-3 c = let s = c.before.before in simp (lt-leb s.args.n (suc s.args.t) (omega arith), add-one)
+returns-else-n-next c = let s = c.before.before in simp (lt-leb s.args.n (suc s.args.t) (omega arith), add-one)
 
-add-next : tie.Need-overflow_add-next
-add-next c = search rules
+overflow_add-next : tie.Need-overflow_add-next
+overflow_add-next c = search rules
 
 pub wait_spec : {M : Type 1} → statement M
-wait_spec = tie.close (tie.spec returns add-next returns-2 returns-3)
+wait_spec = tie.close (tie.spec returns-then-n-t overflow_add-next returns-then-n-next returns-else-n-next)

@@ -3,35 +3,35 @@ use Rattle.std.proofs.Common.{◌≡◌, ◌-◌, length, rules}
 use Rattle.bench.proofs.input.fill.Statement.{statement}
 use Rattle.bench.proofs.input.fill.Tie as tie
 
-abbrev invariant_loop : tie.invariant_loop
+abbrev invariant_loop : tie.invariant-loop-i
 invariant_loop bytes counts₀ i₀ counts i = length counts ≡ length counts₀
 
-abbrev decreases_loop : tie.decreases_loop
+abbrev decreases_loop : tie.decreases-loop-i
 decreases_loop bytes counts₀ i₀ counts i = length counts₀ - i
 
-loop-holds : tie.Need-loop-i-init invariant_loop decreases_loop
-loop-holds c = search rules
+loop-i-init : tie.Need-loop-i-init invariant_loop decreases_loop
+loop-i-init c = search rules
 
-count-at-requires : tie.Need-count_at-requires invariant_loop decreases_loop
-count-at-requires c κs = search rules
+count_at-requires : tie.Need-count_at-requires invariant_loop decreases_loop
+count_at-requires c κs = search rules
 
-mul-t4 : tie.Need-offset_bounds-counts-i invariant_loop decreases_loop
-mul-t4 c = search rules
+offset_bounds-counts-i : tie.Need-offset_bounds-counts-i invariant_loop decreases_loop
+offset_bounds-counts-i c = search rules
 
-slice-set-from-counts : tie.Need-bounds-counts-i invariant_loop decreases_loop
-slice-set-from-counts c = search rules
+bounds-counts-i : tie.Need-bounds-counts-i invariant_loop decreases_loop
+bounds-counts-i c = search rules
 
-add-i : tie.Need-overflow_add-i invariant_loop decreases_loop
-add-i c = search rules
+overflow_add-i : tie.Need-overflow_add-i invariant_loop decreases_loop
+overflow_add-i c = search rules
 
-loop-less : tie.Need-loop-i-smaller invariant_loop decreases_loop
-loop-less c = search rules
+loop-i-smaller : tie.Need-loop-i-smaller invariant_loop decreases_loop
+loop-i-smaller c = search rules
 
-loop-again : tie.Need-loop-i-preserved invariant_loop decreases_loop
-loop-again c = search rules
+loop-i-preserved : tie.Need-loop-i-preserved invariant_loop decreases_loop
+loop-i-preserved c = search rules
 
-same_length : tie.Need-shape_of-counts invariant_loop decreases_loop
-same_length c = search rules
+shape_of-counts : tie.Need-shape_of-counts invariant_loop decreases_loop
+shape_of-counts c = search rules
 
 returns : tie.Need-returns invariant_loop decreases_loop
 returns c = search rules
@@ -42,12 +42,12 @@ fill_spec =
     (tie.spec
     invariant_loop
     decreases_loop
-    loop-holds
-    count-at-requires
-    mul-t4
-    slice-set-from-counts
-    add-i
-    loop-less
-    loop-again
-    same_length
+    loop-i-init
+    count_at-requires
+    offset_bounds-counts-i
+    bounds-counts-i
+    overflow_add-i
+    loop-i-smaller
+    loop-i-preserved
+    shape_of-counts
     returns)

@@ -3,44 +3,44 @@ use Rattle.std.proofs.Common.{◌≡◌, ◌-◌, ◌^◌, ◌<◌, ◌≤◌, l
 use Rattle.bench.proofs.modes.line_ticks.Statement.{statement}
 use Rattle.bench.proofs.modes.line_ticks.Tie as tie
 
-abbrev invariant_loop : tie.invariant_loop
+abbrev invariant_loop : tie.invariant-loop-i
 invariant_loop s run lines counts contact reply₀ state₀ seen₀ i₀ reply state seen i = (length reply ≡ length reply₀) × (i ≤ length counts) × (length counts < 2 ^ 64)
 
-abbrev decreases_loop : tie.decreases_loop
+abbrev decreases_loop : tie.decreases-loop-i
 decreases_loop s run lines counts contact reply₀ state₀ seen₀ i₀ reply state seen i = length counts - i
 
-loop-holds : tie.Need-loop-i-init invariant_loop decreases_loop
-loop-holds c = (refl, zero-le, c.before.before.before.before.well-formed.1.1.1.0.0)
+loop-i-init : tie.Need-loop-i-init invariant_loop decreases_loop
+loop-i-init c = (refl, zero-le, c.before.before.before.before.well-formed.1.1.1.0.0)
 
-mul-line-tick : tie.Need-offset_bounds-counts-i invariant_loop decreases_loop
-mul-line-tick c = search rules
+offset_bounds-counts-i : tie.Need-offset_bounds-counts-i invariant_loop decreases_loop
+offset_bounds-counts-i c = search rules
 
-shared-slice-copy-out-line-tick : tie.Need-bounds-counts-i invariant_loop decreases_loop
-shared-slice-copy-out-line-tick c = search rules
+bounds-counts-i : tie.Need-bounds-counts-i invariant_loop decreases_loop
+bounds-counts-i c = search rules
 
-line-of-requires : tie.Need-line_of-requires invariant_loop decreases_loop
-line-of-requires c κs = search rules
+line_of-requires : tie.Need-line_of-requires invariant_loop decreases_loop
+line_of-requires c κs = search rules
 
-line-tick-requires : tie.Need-line_tick-ticked-requires invariant_loop decreases_loop
-line-tick-requires c κs = search rules
+line_tick-ticked-requires : tie.Need-line_tick-ticked-requires invariant_loop decreases_loop
+line_tick-ticked-requires c κs = search rules
 
-looked-at-line-requires : tie.Need-looked_at_line-seen-requires invariant_loop decreases_loop
-looked-at-line-requires c κs = search rules
+looked_at_line-seen-requires : tie.Need-looked_at_line-seen-requires invariant_loop decreases_loop
+looked_at_line-seen-requires c κs = search rules
 
-add-i : tie.Need-overflow_add-i invariant_loop decreases_loop
-add-i c = search rules
+overflow_add-i : tie.Need-overflow_add-i invariant_loop decreases_loop
+overflow_add-i c = search rules
 
-loop-less : tie.Need-loop-i-smaller invariant_loop decreases_loop
-loop-less c = search rules
+loop-i-smaller : tie.Need-loop-i-smaller invariant_loop decreases_loop
+loop-i-smaller c = search rules
 
-loop-again : tie.Need-loop-i-preserved invariant_loop decreases_loop
-loop-again c = search rules
+loop-i-preserved : tie.Need-loop-i-preserved invariant_loop decreases_loop
+loop-i-preserved c = search rules
 
 more-requires : tie.Need-more-requires invariant_loop decreases_loop
 more-requires c κs = search rules
 
-same_length : tie.Need-shape_of-reply invariant_loop decreases_loop
-same_length c = search rules
+shape_of-reply : tie.Need-shape_of-reply invariant_loop decreases_loop
+shape_of-reply c = search rules
 
 returns : tie.Need-returns invariant_loop decreases_loop
 returns c = search rules
@@ -51,15 +51,15 @@ line_ticks_spec =
     (tie.spec
     invariant_loop
     decreases_loop
-    loop-holds
-    mul-line-tick
-    shared-slice-copy-out-line-tick
-    line-of-requires
-    line-tick-requires
-    looked-at-line-requires
-    add-i
-    loop-less
-    loop-again
+    loop-i-init
+    offset_bounds-counts-i
+    bounds-counts-i
+    line_of-requires
+    line_tick-ticked-requires
+    looked_at_line-seen-requires
+    overflow_add-i
+    loop-i-smaller
+    loop-i-preserved
     more-requires
-    same_length
+    shape_of-reply
     returns)

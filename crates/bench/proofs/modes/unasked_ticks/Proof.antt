@@ -3,38 +3,38 @@ use Rattle.std.proofs.Common.{◌-◌, ◌^◌, ◌<◌, ◌≤◌, length, zero
 use Rattle.bench.proofs.modes.unasked_ticks.Statement.{statement}
 use Rattle.bench.proofs.modes.unasked_ticks.Tie as tie
 
-abbrev invariant_loop : tie.invariant_loop
+abbrev invariant_loop : tie.invariant-loop-i
 invariant_loop s run counts contact state₀ seen₀ i₀ state seen i = (i ≤ length counts) × (length counts < 2 ^ 64)
 
-abbrev decreases_loop : tie.decreases_loop
+abbrev decreases_loop : tie.decreases-loop-i
 decreases_loop s run counts contact state₀ seen₀ i₀ state seen i = length counts - i
 
-between-requires : tie.Need-between-state-requires invariant_loop decreases_loop
-between-requires c κs = search rules
+between-state-requires : tie.Need-between-state-requires invariant_loop decreases_loop
+between-state-requires c κs = search rules
 
-loop-holds : tie.Need-loop-i-init invariant_loop decreases_loop
-loop-holds c = (zero-le, c.before.before.well-formed.1.1.1.0.0)
+loop-i-init : tie.Need-loop-i-init invariant_loop decreases_loop
+loop-i-init c = (zero-le, c.before.before.well-formed.1.1.1.0.0)
 
-mul-count : tie.Need-offset_bounds-counts-i invariant_loop decreases_loop
-mul-count c = search rules
+offset_bounds-counts-i : tie.Need-offset_bounds-counts-i invariant_loop decreases_loop
+offset_bounds-counts-i c = search rules
 
-shared-slice-copy-out-count : tie.Need-bounds-counts-i invariant_loop decreases_loop
-shared-slice-copy-out-count c = search rules
+bounds-counts-i : tie.Need-bounds-counts-i invariant_loop decreases_loop
+bounds-counts-i c = search rules
 
-unasked-tick-requires : tie.Need-unasked_tick-ticked-requires invariant_loop decreases_loop
-unasked-tick-requires c κs = search rules
+unasked_tick-ticked-requires : tie.Need-unasked_tick-ticked-requires invariant_loop decreases_loop
+unasked_tick-ticked-requires c κs = search rules
 
-looked-requires : tie.Need-looked-seen-requires invariant_loop decreases_loop
-looked-requires c κs = search rules
+looked-seen-requires : tie.Need-looked-seen-requires invariant_loop decreases_loop
+looked-seen-requires c κs = search rules
 
-add-i : tie.Need-overflow_add-i invariant_loop decreases_loop
-add-i c = search rules
+overflow_add-i : tie.Need-overflow_add-i invariant_loop decreases_loop
+overflow_add-i c = search rules
 
-loop-less : tie.Need-loop-i-smaller invariant_loop decreases_loop
-loop-less c = search rules
+loop-i-smaller : tie.Need-loop-i-smaller invariant_loop decreases_loop
+loop-i-smaller c = search rules
 
-loop-again : tie.Need-loop-i-preserved invariant_loop decreases_loop
-loop-again c = search rules
+loop-i-preserved : tie.Need-loop-i-preserved invariant_loop decreases_loop
+loop-i-preserved c = search rules
 
 more-requires : tie.Need-more-requires invariant_loop decreases_loop
 more-requires c κs = search rules
@@ -51,15 +51,15 @@ unasked_ticks_spec =
     (tie.spec
     invariant_loop
     decreases_loop
-    between-requires
-    loop-holds
-    mul-count
-    shared-slice-copy-out-count
-    unasked-tick-requires
-    looked-requires
-    add-i
-    loop-less
-    loop-again
+    between-state-requires
+    loop-i-init
+    offset_bounds-counts-i
+    bounds-counts-i
+    unasked_tick-ticked-requires
+    looked-seen-requires
+    overflow_add-i
+    loop-i-smaller
+    loop-i-preserved
     more-requires
     more-requires-2
     returns)

@@ -14,16 +14,16 @@ no_nan nan e = subst T e tt
 no_nan (inf s) e = tt
 no_nan (fin s m d) e = tt
 
-returns : tie.Need-returns-then-x
+returns-then-x : tie.Need-returns-then-x
 unfolding float_bits
-returns c = simp c.if-x.true
+returns-then-x c = simp c.if-x.true
 
-float-to-bits-result : tie.Need-float_to_bits-result
-float-to-bits-result c = no_nan _ c.if-x.false
+float_to_bits-result : tie.Need-float_to_bits-result
+float_to_bits-result c = no_nan _ c.if-x.false
 
-returns-2 : tie.Need-returns
+returns : tie.Need-returns
 unfolding float_bits
-returns-2 c = simp c.if-x.false
+returns c = simp c.if-x.false
 
 pub float_bits_spec : {M : Type 1} → statement M
-float_bits_spec = tie.close (tie.spec returns float-to-bits-result returns-2)
+float_bits_spec = tie.close (tie.spec returns-then-x float_to_bits-result returns)

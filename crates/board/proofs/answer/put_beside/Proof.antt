@@ -5,20 +5,20 @@ use borrow.Author.Rules.{rules}
 use Rattle.board.proofs.answer.put_beside.Statement.{statement}
 use Rattle.board.proofs.answer.put_beside.Tie as tie
 
-analog-number-requires : tie.Need-analog_number-requires
-analog-number-requires c κs = search rules
+analog_number-requires : tie.Need-analog_number-requires
+analog_number-requires c κs = search rules
 
-put-u8-requires : tie.Need-put_u8-requires
-put-u8-requires c κs = search rules
+put_u8-requires : tie.Need-put_u8-requires
+put_u8-requires c κs = search rules
 
-length-byte-requires : tie.Need-length_byte-requires
-length-byte-requires c κs = search rules
+length_byte-requires : tie.Need-length_byte-requires
+length_byte-requires c κs = search rules
 
-put-u8-requires-2 : tie.Need-put_u8-requires-2
-put-u8-requires-2 c κs = search rules
+put_u8-requires-2 : tie.Need-put_u8-requires-2
+put_u8-requires-2 c κs = search rules
 
-same_length : tie.Need-shape_of-s
-same_length c = search rules
+shape_of-s : tie.Need-shape_of-s
+shape_of-s c = search rules
 
 returns : tie.Need-returns
 unfolding put_all
@@ -30,9 +30,9 @@ pub put_beside_spec : {M : Type 1} → statement M
 put_beside_spec =
     tie.close
     (tie.spec
-    analog-number-requires
-    put-u8-requires
-    length-byte-requires
-    put-u8-requires-2
-    same_length
+    analog_number-requires
+    put_u8-requires
+    length_byte-requires
+    put_u8-requires-2
+    shape_of-s
     returns)

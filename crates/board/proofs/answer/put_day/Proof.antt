@@ -22,26 +22,26 @@ record Signed (b : Book) : Type 0 where
 fields : (s : tie.Start) → Signed s.args.b
 fields s = record { opening = search sfits_of; last = search sfits_of; refilled = search sfits_of; used = search sfits_of; unbooked = search sfits_of }
 
-put-flag-requires : tie.Need-put_flag-requires
-put-flag-requires c κs = search rules
+put_flag-requires : tie.Need-put_flag-requires
+put_flag-requires c κs = search rules
 
-put-i32-requires : tie.Need-put_i32-requires
-put-i32-requires c κs = search rules
+put_i32-requires : tie.Need-put_i32-requires
+put_i32-requires c κs = search rules
 
-put-i32-requires-2 : tie.Need-put_i32-requires-2
-put-i32-requires-2 c κs = search rules
+put_i32-requires-2 : tie.Need-put_i32-requires-2
+put_i32-requires-2 c κs = search rules
 
-put-i64-requires : tie.Need-put_i64-requires
-put-i64-requires c κs = search rules
+put_i64-requires : tie.Need-put_i64-requires
+put_i64-requires c κs = search rules
 
-put-i64-requires-2 : tie.Need-put_i64-requires-2
-put-i64-requires-2 c κs = search rules
+put_i64-requires-2 : tie.Need-put_i64-requires-2
+put_i64-requires-2 c κs = search rules
 
-put-i64-requires-3 : tie.Need-put_i64-requires-3
-put-i64-requires-3 c κs = search rules
+put_i64-requires-3 : tie.Need-put_i64-requires-3
+put_i64-requires-3 c κs = search rules
 
-same_length : tie.Need-shape_of-s
-same_length c = search (rules, c.before.before.put_i64-3, c.before.before.before.before.before.before.before.put_i64-2, c.before.before.before.before.before.before.before.before.before.before.before.before.put_i64, c.before.before.before.before.before.before.before.before.before.before.before.before.before.before.before.before.before.put_i32-2, c.before.before.before.before.before.before.before.before.before.before.before.before.before.before.before.before.before.before.before.before.before.before.put_i32, c.before.before.before.before.before.before.before.before.before.before.before.before.before.before.before.before.before.before.before.before.before.before.before.before.before.before.before.put_flag)
+shape_of-s : tie.Need-shape_of-s
+shape_of-s c = search (rules, c.before.before.put_i64-3, c.before.before.before.before.before.before.before.put_i64-2, c.before.before.before.before.before.before.before.before.before.before.before.before.put_i64, c.before.before.before.before.before.before.before.before.before.before.before.before.before.before.before.before.before.put_i32-2, c.before.before.before.before.before.before.before.before.before.before.before.before.before.before.before.before.before.before.before.before.before.before.put_i32, c.before.before.before.before.before.before.before.before.before.before.before.before.before.before.before.before.before.before.before.before.before.before.before.before.before.before.before.put_flag)
 
 returns : tie.Need-returns
 unfolding closed_put closed_flag closed_book put_all
@@ -58,11 +58,11 @@ pub put_day_spec : {M : Type 1} → statement M
 put_day_spec =
     tie.close
     (tie.spec
-    put-flag-requires
-    put-i32-requires
-    put-i32-requires-2
-    put-i64-requires
-    put-i64-requires-2
-    put-i64-requires-3
-    same_length
+    put_flag-requires
+    put_i32-requires
+    put_i32-requires-2
+    put_i64-requires
+    put_i64-requires-2
+    put_i64-requires-3
+    shape_of-s
     returns)

@@ -5,23 +5,23 @@ use Rattle.places.specs.Places.{put_be, put_all, flag_tag}
 use Rattle.board.proofs.answer.put_gates.Statement.{statement}
 use Rattle.board.proofs.answer.put_gates.Tie as tie
 
-put-u8-requires : tie.Need-put_u8-requires
-put-u8-requires c κs = search rules
+put_u8-requires : tie.Need-put_u8-requires
+put_u8-requires c κs = search rules
 
-put-flag-requires : tie.Need-put_flag-requires
-put-flag-requires c κs = search rules
+put_flag-requires : tie.Need-put_flag-requires
+put_flag-requires c κs = search rules
 
-put-flag-requires-2 : tie.Need-put_flag-requires-2
-put-flag-requires-2 c κs = search rules
+put_flag-requires-2 : tie.Need-put_flag-requires-2
+put_flag-requires-2 c κs = search rules
 
-put-flag-requires-3 : tie.Need-put_flag-requires-3
-put-flag-requires-3 c κs = search rules
+put_flag-requires-3 : tie.Need-put_flag-requires-3
+put_flag-requires-3 c κs = search rules
 
-put-flag-requires-4 : tie.Need-put_flag-requires-4
-put-flag-requires-4 c κs = search rules
+put_flag-requires-4 : tie.Need-put_flag-requires-4
+put_flag-requires-4 c κs = search rules
 
-same_length : tie.Need-shape_of-s
-same_length c = search rules
+shape_of-s : tie.Need-shape_of-s
+shape_of-s c = search rules
 
 returns : tie.Need-returns
 unfolding put_all
@@ -37,10 +37,10 @@ pub put_gates_spec : {M : Type 1} → statement M
 put_gates_spec =
     tie.close
     (tie.spec
-    put-u8-requires
-    put-flag-requires
-    put-flag-requires-2
-    put-flag-requires-3
-    put-flag-requires-4
-    same_length
+    put_u8-requires
+    put_flag-requires
+    put_flag-requires-2
+    put_flag-requires-3
+    put_flag-requires-4
+    shape_of-s
     returns)

@@ -17,14 +17,14 @@ record Signed (x : Reading) : Type 0 where
 fields : (s : tie.Start) → Signed s.args.x
 fields s = record { gross = search sfits_of; net = search sfits_of }
 
-put-i32-requires : tie.Need-put_i32-requires
-put-i32-requires c κs = search rules
+put_i32-requires : tie.Need-put_i32-requires
+put_i32-requires c κs = search rules
 
-put-i32-requires-2 : tie.Need-put_i32-requires-2
-put-i32-requires-2 c κs = search rules
+put_i32-requires-2 : tie.Need-put_i32-requires-2
+put_i32-requires-2 c κs = search rules
 
-same_length : tie.Need-shape_of-s
-same_length c = search rules
+shape_of-s : tie.Need-shape_of-s
+shape_of-s c = search rules
 
 returns : tie.Need-returns
 unfolding put_all
@@ -35,4 +35,4 @@ returns c =
     c.before.before.put_i32-2.ensures ∙ (λ i. put_be 4 (coded w32 ((arg f.net).read i)) (e1 i) 20)
 
 pub put_gross_spec : {M : Type 1} → statement M
-put_gross_spec = tie.close (tie.spec put-i32-requires put-i32-requires-2 same_length returns)
+put_gross_spec = tie.close (tie.spec put_i32-requires put_i32-requires-2 shape_of-s returns)

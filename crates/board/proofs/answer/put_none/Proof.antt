@@ -9,26 +9,26 @@ use borrow.Author.Rules.{rules}
 use Rattle.board.proofs.answer.put_none.Statement.{statement}
 use Rattle.board.proofs.answer.put_none.Tie as tie
 
-put-flag-requires : tie.Need-put_flag-requires
-put-flag-requires c κs = search rules
+put_flag-requires : tie.Need-put_flag-requires
+put_flag-requires c κs = search rules
 
-put-i32-requires : tie.Need-put_i32-requires
-put-i32-requires c κs = search rules
+put_i32-requires : tie.Need-put_i32-requires
+put_i32-requires c κs = search rules
 
-put-i32-requires-2 : tie.Need-put_i32-requires-2
-put-i32-requires-2 c κs = search rules
+put_i32-requires-2 : tie.Need-put_i32-requires-2
+put_i32-requires-2 c κs = search rules
 
-put-i64-requires : tie.Need-put_i64-requires
-put-i64-requires c κs = search rules
+put_i64-requires : tie.Need-put_i64-requires
+put_i64-requires c κs = search rules
 
-put-i64-requires-2 : tie.Need-put_i64-requires-2
-put-i64-requires-2 c κs = search rules
+put_i64-requires-2 : tie.Need-put_i64-requires-2
+put_i64-requires-2 c κs = search rules
 
-put-i64-requires-3 : tie.Need-put_i64-requires-3
-put-i64-requires-3 c κs = search rules
+put_i64-requires-3 : tie.Need-put_i64-requires-3
+put_i64-requires-3 c κs = search rules
 
-same_length : tie.Need-shape_of-s
-same_length c = search rules
+shape_of-s : tie.Need-shape_of-s
+shape_of-s c = search rules
 
 returns : tie.Need-returns
 unfolding closed_put closed_flag closed_book put_all
@@ -44,11 +44,11 @@ pub put_none_spec : {M : Type 1} → statement M
 put_none_spec =
     tie.close
     (tie.spec
-    put-flag-requires
-    put-i32-requires
-    put-i32-requires-2
-    put-i64-requires
-    put-i64-requires-2
-    put-i64-requires-3
-    same_length
+    put_flag-requires
+    put_i32-requires
+    put_i32-requires-2
+    put_i64-requires
+    put_i64-requires-2
+    put_i64-requires-3
+    shape_of-s
     returns)

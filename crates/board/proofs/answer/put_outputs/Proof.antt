@@ -7,29 +7,29 @@ use borrow.Author.Rules.{rules}
 use Rattle.board.proofs.answer.put_outputs.Statement.{statement}
 use Rattle.board.proofs.answer.put_outputs.Tie as tie
 
-put-weights-requires : tie.Need-put_weights-requires
-put-weights-requires c κs = search rules
+put_weights-requires : tie.Need-put_weights-requires
+put_weights-requires c κs = search rules
 
-stage-number-requires : tie.Need-stage_number-requires
-stage-number-requires c κs = search rules
+stage_number-requires : tie.Need-stage_number-requires
+stage_number-requires c κs = search rules
 
-put-gates-requires : tie.Need-put_gates-requires
-put-gates-requires c κs = search rules
+put_gates-requires : tie.Need-put_gates-requires
+put_gates-requires c κs = search rules
 
-put-signals-requires : tie.Need-put_signals-requires
-put-signals-requires c κs = search rules
+put_signals-requires : tie.Need-put_signals-requires
+put_signals-requires c κs = search rules
 
-put-beside-requires : tie.Need-put_beside-requires
-put-beside-requires c κs = search rules
+put_beside-requires : tie.Need-put_beside-requires
+put_beside-requires c κs = search rules
 
-put-gross-requires : tie.Need-put_gross-requires
-put-gross-requires c κs = search rules
+put_gross-requires : tie.Need-put_gross-requires
+put_gross-requires c κs = search rules
 
-put-value-requires : tie.Need-put_value-requires
-put-value-requires c κs = search rules
+put_value-requires : tie.Need-put_value-requires
+put_value-requires c κs = search rules
 
-same_length : tie.Need-shape_of-s
-same_length c = search rules
+shape_of-s : tie.Need-shape_of-s
+shape_of-s c = search rules
 
 returns : tie.Need-returns
 unfolding outputs_put put_all
@@ -46,12 +46,12 @@ pub put_outputs_spec : {M : Type 1} → statement M
 put_outputs_spec =
     tie.close
     (tie.spec
-    put-weights-requires
-    stage-number-requires
-    put-gates-requires
-    put-signals-requires
-    put-beside-requires
-    put-gross-requires
-    put-value-requires
-    same_length
+    put_weights-requires
+    stage_number-requires
+    put_gates-requires
+    put_signals-requires
+    put_beside-requires
+    put_gross-requires
+    put_value-requires
+    shape_of-s
     returns)

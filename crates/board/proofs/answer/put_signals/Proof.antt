@@ -5,26 +5,26 @@ use Rattle.places.specs.Places.{put_be, put_all, flag_tag}
 use Rattle.board.proofs.answer.put_signals.Statement.{statement}
 use Rattle.board.proofs.answer.put_signals.Tie as tie
 
-judgement-number-requires : tie.Need-judgement_number-requires
-judgement-number-requires c κs = search rules
+judgement_number-requires : tie.Need-judgement_number-requires
+judgement_number-requires c κs = search rules
 
-put-u8-requires : tie.Need-put_u8-requires
-put-u8-requires c κs = search rules
+put_u8-requires : tie.Need-put_u8-requires
+put_u8-requires c κs = search rules
 
-error-number-requires : tie.Need-error_number-requires
-error-number-requires c κs = search rules
+error_number-requires : tie.Need-error_number-requires
+error_number-requires c κs = search rules
 
-put-u8-requires-2 : tie.Need-put_u8-requires-2
-put-u8-requires-2 c κs = search rules
+put_u8-requires-2 : tie.Need-put_u8-requires-2
+put_u8-requires-2 c κs = search rules
 
-put-flag-requires : tie.Need-put_flag-requires
-put-flag-requires c κs = search rules
+put_flag-requires : tie.Need-put_flag-requires
+put_flag-requires c κs = search rules
 
-put-flag-requires-2 : tie.Need-put_flag-requires-2
-put-flag-requires-2 c κs = search rules
+put_flag-requires-2 : tie.Need-put_flag-requires-2
+put_flag-requires-2 c κs = search rules
 
-same_length : tie.Need-shape_of-s
-same_length c = search rules
+shape_of-s : tie.Need-shape_of-s
+shape_of-s c = search rules
 
 returns : tie.Need-returns
 unfolding put_all
@@ -39,11 +39,11 @@ pub put_signals_spec : {M : Type 1} → statement M
 put_signals_spec =
     tie.close
     (tie.spec
-    judgement-number-requires
-    put-u8-requires
-    error-number-requires
-    put-u8-requires-2
-    put-flag-requires
-    put-flag-requires-2
-    same_length
+    judgement_number-requires
+    put_u8-requires
+    error_number-requires
+    put_u8-requires-2
+    put_flag-requires
+    put_flag-requires-2
+    shape_of-s
     returns)

@@ -5,14 +5,14 @@ use Rattle.places.specs.Places.{put_be, put_all}
 use Rattle.board.proofs.answer.put_value.Statement.{statement}
 use Rattle.board.proofs.answer.put_value.Tie as tie
 
-analog-bits-requires : tie.Need-analog_bits-requires
-analog-bits-requires c κs = search rules
+analog_bits-requires : tie.Need-analog_bits-requires
+analog_bits-requires c κs = search rules
 
-put-u64-requires : tie.Need-put_u64-requires
-put-u64-requires c κs = search rules
+put_u64-requires : tie.Need-put_u64-requires
+put_u64-requires c κs = search rules
 
-same_length : tie.Need-shape_of-s
-same_length c = search rules
+shape_of-s : tie.Need-shape_of-s
+shape_of-s c = search rules
 
 returns : tie.Need-returns
 unfolding put_all
@@ -21,4 +21,4 @@ returns c =
     c.before.before.put_u64.ensures ∙ (λ i. put_be 8 (c.before.before.before.analog_bits.ensures i) a.args.s-1.now 56)
 
 pub put_value_spec : {M : Type 1} → statement M
-put_value_spec = tie.close (tie.spec analog-bits-requires put-u64-requires same_length returns)
+put_value_spec = tie.close (tie.spec analog_bits-requires put_u64-requires shape_of-s returns)

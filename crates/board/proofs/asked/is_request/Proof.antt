@@ -4,13 +4,13 @@ use Rattle.board.specs.AskedBy.{is_request}
 use Rattle.board.proofs.asked.is_request.Statement.{statement}
 use Rattle.board.proofs.asked.is_request.Tie as tie
 
-returns : tie.Need-returns-then-n-eq-SET_NUMBER
+returns-then-n-eq-SET_NUMBER : tie.Need-returns-then-n-eq-SET_NUMBER
 unfolding is_request
-returns c = simp (eq-eqb _ _ c.if-n-eq-SET_NUMBER.true)
+returns-then-n-eq-SET_NUMBER c = simp (eq-eqb _ _ c.if-n-eq-SET_NUMBER.true)
 
-returns-2 : tie.Need-returns
+returns : tie.Need-returns
 unfolding is_request
-returns-2 c = simp (ne_eqb _ _ c.if-n-eq-SET_NUMBER.false)
+returns c = simp (ne_eqb _ _ c.if-n-eq-SET_NUMBER.false)
 
 pub is_request_spec : {M : Type 1} → statement M
-is_request_spec = tie.close (tie.spec returns returns-2)
+is_request_spec = tie.close (tie.spec returns-then-n-eq-SET_NUMBER returns)

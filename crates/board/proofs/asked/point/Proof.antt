@@ -5,17 +5,17 @@ use borrow.Author.Rules.{rules}
 use Rattle.board.proofs.asked.point.Statement.{statement}
 use Rattle.board.proofs.asked.point.Tie as tie
 
-mul-result : tie.Need-offset_bounds-points-i
-mul-result c = search rules
+offset_bounds-points-i : tie.Need-offset_bounds-points-i
+offset_bounds-points-i c = search rules
 
-shared-slice-read-result : tie.Need-bounds-points-i
-shared-slice-read-result c = search rules
+bounds-points-i : tie.Need-bounds-points-i
+bounds-points-i c = search rules
 
-returns : tie.Need-returns-then-i-points
-returns c = search rules
+returns-then-i-points : tie.Need-returns-then-i-points
+returns-then-i-points c = search rules
 
-returns-2 : tie.Need-returns-else-i-points
-returns-2 c = sym (get_or-eq_default c.before.args.points.now 0 c.if-i-points.false)
+returns-else-i-points : tie.Need-returns-else-i-points
+returns-else-i-points c = sym (get_or-eq_default c.before.args.points.now 0 c.if-i-points.false)
 
 pub point_spec : {M : Type 1} → statement M
-point_spec = tie.close (tie.spec mul-result shared-slice-read-result returns returns-2)
+point_spec = tie.close (tie.spec offset_bounds-points-i bounds-points-i returns-then-i-points returns-else-i-points)

@@ -4,26 +4,26 @@ use Rattle.board.specs.AskedBy.{points_of}
 use Rattle.board.proofs.asked.points_of.Statement.{statement}
 use Rattle.board.proofs.asked.points_of.Tie as tie
 
-point-requires : tie.Need-point-target-requires
-point-requires c κs = search rules
+point-target-requires : tie.Need-point-target-requires
+point-target-requires c κs = search rules
 
-point-requires-2 : tie.Need-point-fall-requires
-point-requires-2 c κs = search rules
+point-fall-requires : tie.Need-point-fall-requires
+point-fall-requires c κs = search rules
 
-point-requires-3 : tie.Need-point-preliminary-requires
-point-requires-3 c κs = search rules
+point-preliminary-requires : tie.Need-point-preliminary-requires
+point-preliminary-requires c κs = search rules
 
-point-requires-4 : tie.Need-point-optional-requires
-point-requires-4 c κs = search rules
+point-optional-requires : tie.Need-point-optional-requires
+point-optional-requires c κs = search rules
 
-point-requires-5 : tie.Need-point-over-requires
-point-requires-5 c κs = search rules
+point-over-requires : tie.Need-point-over-requires
+point-over-requires c κs = search rules
 
-point-requires-6 : tie.Need-point-under-requires
-point-requires-6 c κs = search rules
+point-under-requires : tie.Need-point-under-requires
+point-under-requires c κs = search rules
 
-point-requires-7 : tie.Need-point-near-requires
-point-requires-7 c κs = search rules
+point-near-requires : tie.Need-point-near-requires
+point-near-requires c κs = search rules
 
 returns : tie.Need-returns
 unfolding points_of
@@ -33,11 +33,11 @@ pub points_of_spec : {M : Type 1} → statement M
 points_of_spec =
     tie.close
     (tie.spec
-    point-requires
-    point-requires-2
-    point-requires-3
-    point-requires-4
-    point-requires-5
-    point-requires-6
-    point-requires-7
+    point-target-requires
+    point-fall-requires
+    point-preliminary-requires
+    point-optional-requires
+    point-over-requires
+    point-under-requires
+    point-near-requires
     returns)

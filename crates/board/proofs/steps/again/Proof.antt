@@ -8,14 +8,14 @@ use borrow.Author.Rules.{rules}
 use Rattle.board.proofs.steps.again.Statement.{statement}
 use Rattle.board.proofs.steps.again.Tie as tie
 
-stability-at-requires : tie.Need-stability_at-stability-requires
-stability-at-requires c κs = search rules
+stability_at-stability-requires : tie.Need-stability_at-stability-requires
+stability_at-stability-requires c κs = search rules
 
-weighing-at-requires : tie.Need-weighing_at-weighing-requires
-weighing-at-requires c κs = search rules
+weighing_at-weighing-requires : tie.Need-weighing_at-weighing-requires
+weighing_at-weighing-requires c κs = search rules
 
-raw-again-requires : tie.Need-raw_again-requires
-raw-again-requires c κs = search rules
+raw_again-requires : tie.Need-raw_again-requires
+raw_again-requires c κs = search rules
 
 weigh-requires : tie.Need-weigh-requires
 weigh-requires c κs = search rules
@@ -31,4 +31,4 @@ returns c st h =
 pub again_spec : {M : Type 1} → statement M
 again_spec =
     tie.close
-    (tie.spec stability-at-requires weighing-at-requires raw-again-requires weigh-requires returns)
+    (tie.spec stability_at-stability-requires weighing_at-weighing-requires raw_again-requires weigh-requires returns)

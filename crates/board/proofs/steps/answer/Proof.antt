@@ -8,32 +8,32 @@ use borrow.Author.Rules.{rules}
 use Rattle.board.proofs.steps.answer.Statement.{statement}
 use Rattle.board.proofs.steps.answer.Tie as tie
 
-panel-at-requires : tie.Need-panel_at-panel-requires
-panel-at-requires c κs = search rules
+panel_at-panel-requires : tie.Need-panel_at-panel-requires
+panel_at-panel-requires c κs = search rules
 
-setpoints-at-requires : tie.Need-setpoints_at-setpoints-requires
-setpoints-at-requires c κs = search rules
+setpoints_at-setpoints-requires : tie.Need-setpoints_at-setpoints-requires
+setpoints_at-setpoints-requires c κs = search rules
 
-sequence-at-requires : tie.Need-sequence_at-sequence-requires
-sequence-at-requires c κs = search rules
+sequence_at-sequence-requires : tie.Need-sequence_at-sequence-requires
+sequence_at-sequence-requires c κs = search rules
 
-open-book-requires : tie.Need-open_book-requires
-open-book-requires c κs = search rules
+open_book-requires : tie.Need-open_book-requires
+open_book-requires c κs = search rules
 
-none-waiting-requires : tie.Need-none_waiting-requires
-none-waiting-requires c κs = search rules
+none_waiting-requires : tie.Need-none_waiting-requires
+none_waiting-requires c κs = search rules
 
-clear-totals-requires : tie.Need-clear_totals-requires
-clear-totals-requires c κs = search rules
+clear_totals-requires : tie.Need-clear_totals-requires
+clear_totals-requires c κs = search rules
 
-outputs-requires : tie.Need-outputs-a-requires
-outputs-requires c κs = search rules
+outputs-a-requires : tie.Need-outputs-a-requires
+outputs-a-requires c κs = search rules
 
-put-outputs-requires : tie.Need-put_outputs-requires
-put-outputs-requires c κs = search rules
+put_outputs-requires : tie.Need-put_outputs-requires
+put_outputs-requires c κs = search rules
 
-same_length : tie.Need-shape_of-answer
-same_length c = search rules
+shape_of-answer : tie.Need-shape_of-answer
+shape_of-answer c = search rules
 
 returns : tie.Need-returns
 returns c st h =
@@ -47,13 +47,13 @@ pub answer_spec : {M : Type 1} → statement M
 answer_spec =
     tie.close
     (tie.spec
-    panel-at-requires
-    setpoints-at-requires
-    sequence-at-requires
-    open-book-requires
-    none-waiting-requires
-    clear-totals-requires
-    outputs-requires
-    put-outputs-requires
-    same_length
+    panel_at-panel-requires
+    setpoints_at-setpoints-requires
+    sequence_at-sequence-requires
+    open_book-requires
+    none_waiting-requires
+    clear_totals-requires
+    outputs-a-requires
+    put_outputs-requires
+    shape_of-answer
     returns)

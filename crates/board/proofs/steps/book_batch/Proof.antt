@@ -7,23 +7,23 @@ use borrow.Author.Rules.{rules}
 use Rattle.board.proofs.steps.book_batch.Statement.{statement}
 use Rattle.board.proofs.steps.book_batch.Tie as tie
 
-totals-at-requires : tie.Need-totals_at-totals-requires
-totals-at-requires c κs = search rules
+totals_at-totals-requires : tie.Need-totals_at-totals-requires
+totals_at-totals-requires c κs = search rules
 
-booked-sequence-requires : tie.Need-booked_sequence-requires
-booked-sequence-requires c κs = search rules
+booked_sequence-requires : tie.Need-booked_sequence-requires
+booked_sequence-requires c κs = search rules
 
-put-sequence-requires : tie.Need-put_sequence-requires
-put-sequence-requires c κs = search rules
+put_sequence-requires : tie.Need-put_sequence-requires
+put_sequence-requires c κs = search rules
 
-booked-totals-requires : tie.Need-booked_totals-requires
-booked-totals-requires c κs = search rules
+booked_totals-requires : tie.Need-booked_totals-requires
+booked_totals-requires c κs = search rules
 
-put-totals-requires : tie.Need-put_totals-requires
-put-totals-requires c κs = search rules
+put_totals-requires : tie.Need-put_totals-requires
+put_totals-requires c κs = search rules
 
-same_length : tie.Need-shape_of-state
-same_length c = search rules
+shape_of-state : tie.Need-shape_of-state
+shape_of-state c = search rules
 
 returns : tie.Need-returns
 returns c st h =
@@ -37,10 +37,10 @@ pub book_batch_spec : {M : Type 1} → statement M
 book_batch_spec =
     tie.close
     (tie.spec
-    totals-at-requires
-    booked-sequence-requires
-    put-sequence-requires
-    booked-totals-requires
-    put-totals-requires
-    same_length
+    totals_at-totals-requires
+    booked_sequence-requires
+    put_sequence-requires
+    booked_totals-requires
+    put_totals-requires
+    shape_of-state
     returns)

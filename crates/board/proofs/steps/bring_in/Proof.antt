@@ -6,34 +6,34 @@ use borrow.Author.Rules.{rules}
 use Rattle.board.proofs.steps.bring_in.Statement.{statement}
 use Rattle.board.proofs.steps.bring_in.Tie as tie
 
-waiting-at-requires : tie.Need-waiting_at-waiting-requires
-waiting-at-requires c κs = search rules
+waiting_at-waiting-requires : tie.Need-waiting_at-waiting-requires
+waiting_at-waiting-requires c κs = search rules
 
 enum_told : tie.Need-enum_told-1
 enum_told c = search rules
 
-same_length : tie.Need-shape_of-state-in-Nothing
-same_length c = search rules
+shape_of-state-in-Nothing : tie.Need-shape_of-state-in-Nothing
+shape_of-state-in-Nothing c = search rules
 
-returns : tie.Need-returns-in-Nothing
-returns c st h =
+returns-in-Nothing : tie.Need-returns-in-Nothing
+returns-in-Nothing c st h =
     let w = read_waiting c.before.before.waiting_at-waiting.ensures h in
     held_as (came_none st (ap (λ (x : Waiting). x.write-1) (sym w) ∙ c.enum_told-1.given.1)) h
 
-enum-known-write : tie.Need-enum_known-write
-enum-known-write c = search rules
+enum_known-write : tie.Need-enum_known-write
+enum_known-write c = search rules
 
-put-setpoints-requires : tie.Need-put_setpoints-requires
-put-setpoints-requires c κs = search rules
+put_setpoints-requires : tie.Need-put_setpoints-requires
+put_setpoints-requires c κs = search rules
 
-clear-waiting-requires : tie.Need-clear_waiting-requires
-clear-waiting-requires c κs = search rules
+clear_waiting-requires : tie.Need-clear_waiting-requires
+clear_waiting-requires c κs = search rules
 
-same-length-2 : tie.Need-shape_of-state-in-Points
-same-length-2 c = search rules
+shape_of-state-in-Points : tie.Need-shape_of-state-in-Points
+shape_of-state-in-Points c = search rules
 
-returns-2 : tie.Need-returns-in-Points
-returns-2 c st h =
+returns-in-Points : tie.Need-returns-in-Points
+returns-in-Points c st h =
     let w = read_waiting c.before.before.before.before.before.before.before.before.before.before.before.waiting_at-waiting.ensures h in
     held_as (came_points st _ (ap (λ (x : Waiting). x.write-1) (sym w) ∙ c.before.before.before.before.before.before.before.before.before.write-1.given.1))
     (c.before.before.clear_waiting.ensures.0 _ (c.before.before.before.before.before.before.put_setpoints.ensures.0 st h))
@@ -42,12 +42,12 @@ pub bring_in_spec : {M : Type 1} → statement M
 bring_in_spec =
     tie.close
     (tie.spec
-    waiting-at-requires
+    waiting_at-waiting-requires
     enum_told
-    same_length
-    returns
-    enum-known-write
-    put-setpoints-requires
-    clear-waiting-requires
-    same-length-2
-    returns-2)
+    shape_of-state-in-Nothing
+    returns-in-Nothing
+    enum_known-write
+    put_setpoints-requires
+    clear_waiting-requires
+    shape_of-state-in-Points
+    returns-in-Points)

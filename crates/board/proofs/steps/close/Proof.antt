@@ -11,23 +11,23 @@ use borrow.Author.Rules.{rules}
 use Rattle.board.proofs.steps.close.Statement.{statement}
 use Rattle.board.proofs.steps.close.Tie as tie
 
-book-at-requires : tie.Need-book_at-day-requires
-book-at-requires c κs = search rules
+book_at-day-requires : tie.Need-book_at-day-requires
+book_at-day-requires c κs = search rules
 
-put-day-requires : tie.Need-put_day-requires
-put-day-requires c κs = search rules
+put_day-requires : tie.Need-put_day-requires
+put_day-requires c κs = search rules
 
-closed-book-requires : tie.Need-closed_book-requires
-closed-book-requires c κs = search rules
+closed_book-requires : tie.Need-closed_book-requires
+closed_book-requires c κs = search rules
 
-put-book-requires : tie.Need-put_book-requires
-put-book-requires c κs = search rules
+put_book-requires : tie.Need-put_book-requires
+put_book-requires c κs = search rules
 
-same_length : tie.Need-shape_of-state
-same_length c = search rules
+shape_of-state : tie.Need-shape_of-state
+shape_of-state c = search rules
 
-same-length-2 : tie.Need-shape_of-answer
-same-length-2 c = search rules
+shape_of-answer : tie.Need-shape_of-answer
+shape_of-answer c = search rules
 
 returns : tie.Need-returns
 returns c = (
@@ -39,10 +39,10 @@ pub close_spec : {M : Type 1} → statement M
 close_spec =
     tie.close
     (tie.spec
-    book-at-requires
-    put-day-requires
-    closed-book-requires
-    put-book-requires
-    same_length
-    same-length-2
+    book_at-day-requires
+    put_day-requires
+    closed_book-requires
+    put_book-requires
+    shape_of-state
+    shape_of-answer
     returns)

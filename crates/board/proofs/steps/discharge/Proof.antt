@@ -8,17 +8,17 @@ use borrow.Author.Rules.{rules}
 use Rattle.board.proofs.steps.discharge.Statement.{statement}
 use Rattle.board.proofs.steps.discharge.Tie as tie
 
-sequence-at-requires : tie.Need-sequence_at-sequence-requires
-sequence-at-requires c κs = search rules
+sequence_at-sequence-requires : tie.Need-sequence_at-sequence-requires
+sequence_at-sequence-requires c κs = search rules
 
-discharge-sequence-requires : tie.Need-discharge_sequence-requires
-discharge-sequence-requires c κs = search rules
+discharge_sequence-requires : tie.Need-discharge_sequence-requires
+discharge_sequence-requires c κs = search rules
 
-put-sequence-requires : tie.Need-put_sequence-requires
-put-sequence-requires c κs = search rules
+put_sequence-requires : tie.Need-put_sequence-requires
+put_sequence-requires c κs = search rules
 
-same_length : tie.Need-shape_of-state
-same_length c = search rules
+shape_of-state : tie.Need-shape_of-state
+shape_of-state c = search rules
 
 returns : tie.Need-returns
 returns c st h = held_as (λ i. with_sequence st ((c.before.before.before.discharge_sequence.ensures ∙ ap discharge_sequence (read_part (λ (t : State). t.sequence) c.before.before.before.before.before.sequence_at-sequence.ensures h)) i)) (c.before.before.put_sequence.ensures.0 st h)
@@ -26,4 +26,4 @@ returns c st h = held_as (λ i. with_sequence st ((c.before.before.before.discha
 pub discharge_spec : {M : Type 1} → statement M
 discharge_spec =
     tie.close
-    (tie.spec sequence-at-requires discharge-sequence-requires put-sequence-requires same_length returns)
+    (tie.spec sequence_at-sequence-requires discharge_sequence-requires put_sequence-requires shape_of-state returns)

@@ -37,35 +37,35 @@ made c st h =
       booked = c.before.before.before.before.before.before.before.before.book_tick.ensures ∙ (λ i. book_of (b i) (er i) a.contact);
     }
 
-raw_of-requires : tie.Need-raw_of-raw-requires
-raw_of-requires c κs = search rules
+raw_of-raw-requires : tie.Need-raw_of-raw-requires
+raw_of-raw-requires c κs = search rules
 
-book-at-requires : tie.Need-book_at-book-requires
-book-at-requires c κs = search rules
+book_at-book-requires : tie.Need-book_at-book-requires
+book_at-book-requires c κs = search rules
 
-stability-at-requires : tie.Need-stability_at-stability-requires
-stability-at-requires c κs = search rules
+stability_at-stability-requires : tie.Need-stability_at-stability-requires
+stability_at-stability-requires c κs = search rules
 
-weighing-at-requires : tie.Need-weighing_at-weighing-requires
-weighing-at-requires c κs = search rules
+weighing_at-weighing-requires : tie.Need-weighing_at-weighing-requires
+weighing_at-weighing-requires c κs = search rules
 
-steadied-requires : tie.Need-steadied-steadied-requires
-steadied-requires c κs = search rules
+steadied-steadied-requires : tie.Need-steadied-steadied-requires
+steadied-steadied-requires c κs = search rules
 
-book-tick-requires : tie.Need-book_tick-requires
-book-tick-requires c κs = search rules
+book_tick-requires : tie.Need-book_tick-requires
+book_tick-requires c κs = search rules
 
-put-book-requires : tie.Need-put_book-requires
-put-book-requires c κs = search rules
+put_book-requires : tie.Need-put_book-requires
+put_book-requires c κs = search rules
 
-put-stability-requires : tie.Need-put_stability-requires
-put-stability-requires c κs = search rules
+put_stability-requires : tie.Need-put_stability-requires
+put_stability-requires c κs = search rules
 
 weigh-requires : tie.Need-weigh-requires
 weigh-requires c κs = search rules
 
-same_length : tie.Need-shape_of-state
-same_length c = search rules
+shape_of-state : tie.Need-shape_of-state
+shape_of-state c = search rules
 
 returns : tie.Need-returns
 unfolding entered_of weights_of
@@ -79,14 +79,14 @@ pub enter_spec : {M : Type 1} → statement M
 enter_spec =
     tie.close
     (tie.spec
-    raw_of-requires
-    book-at-requires
-    stability-at-requires
-    weighing-at-requires
-    steadied-requires
-    book-tick-requires
-    put-book-requires
-    put-stability-requires
+    raw_of-raw-requires
+    book_at-book-requires
+    stability_at-stability-requires
+    weighing_at-weighing-requires
+    steadied-steadied-requires
+    book_tick-requires
+    put_book-requires
+    put_stability-requires
     weigh-requires
-    same_length
+    shape_of-state
     returns)

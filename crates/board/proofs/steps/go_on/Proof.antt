@@ -17,29 +17,29 @@ use Rattle.board.proofs.steps.go_on.Tie as tie
 gross : (s : tie.Start) → SFits w32 s.args.x.gross
 gross s = search sfits_of
 
-compared-requires : tie.Need-compared-v-requires
-compared-requires c κs = search rules
+compared-v-requires : tie.Need-compared-v-requires
+compared-v-requires c κs = search rules
 
-is-fit-requires : tie.Need-is_fit-fit-requires
-is-fit-requires c κs = search rules
+is_fit-fit-requires : tie.Need-is_fit-fit-requires
+is_fit-fit-requires c κs = search rules
 
-setpoints-at-requires : tie.Need-setpoints_at-setpoints-requires
-setpoints-at-requires c κs = search rules
+setpoints_at-setpoints-requires : tie.Need-setpoints_at-setpoints-requires
+setpoints_at-setpoints-requires c κs = search rules
 
-advance-requires : tie.Need-advance-a-requires
-advance-requires c κs = search rules
+advance-a-requires : tie.Need-advance-a-requires
+advance-a-requires c κs = search rules
 
-is-idle-requires : tie.Need-is_idle-requires
-is-idle-requires c κs = search rules
+is_idle-requires : tie.Need-is_idle-requires
+is_idle-requires c κs = search rules
 
-put-sequence-requires : tie.Need-put_sequence-requires
-put-sequence-requires c κs = search rules
+put_sequence-requires : tie.Need-put_sequence-requires
+put_sequence-requires c κs = search rules
 
-same_length : tie.Need-shape_of-state-then-not-is_idle
-same_length c = search rules
+shape_of-state-then-not-is_idle : tie.Need-shape_of-state-then-not-is_idle
+shape_of-state-then-not-is_idle c = search rules
 
-returns : tie.Need-returns-then-not-is_idle
-returns c st h e runs =
+returns-then-not-is_idle : tie.Need-returns-then-not-is_idle
+returns-then-not-is_idle c st h e runs =
     let on = c.before.before.before.before.before.before.before in
     let n = read_part (λ (t : State). t.setpoints) on.before.before.setpoints_at-setpoints.ensures h in
     let v = on.before.before.before.before.before.compared-v in
@@ -47,17 +47,17 @@ returns c st h e runs =
     let ea = by_sequence _ _ _ _ e (simp (to_z-of_z (gross on.before.before.before.before.before.before.before.before)) at on.advance-a.ensures) in
     held_as (step-on _ st _ _ _ _ _ n on.before.before.before.before.is_fit-fit.ensures ev ea (sym c.before.before.before.before.before.is_idle.ensures ∙ not-true _ c.before.before.before.before.if-not-is_idle.true)) (c.before.before.put_sequence.ensures.0 st h)
 
-book-batch-requires : tie.Need-book_batch-requires
-book-batch-requires c κs = search rules
+book_batch-requires : tie.Need-book_batch-requires
+book_batch-requires c κs = search rules
 
-bring-in-requires : tie.Need-bring_in-requires
-bring-in-requires c κs = search rules
+bring_in-requires : tie.Need-bring_in-requires
+bring_in-requires c κs = search rules
 
-same-length-2 : tie.Need-shape_of-state-then-a
-same-length-2 c = search rules
+shape_of-state-then-a : tie.Need-shape_of-state-then-a
+shape_of-state-then-a c = search rules
 
-returns-2 : tie.Need-returns-then-a
-returns-2 c st h e runs =
+returns-then-a : tie.Need-returns-then-a
+returns-then-a c st h e runs =
     let on = c.before.before.before.before.before.before.before.before.before.before.before.before in
     let n = read_part (λ (t : State). t.setpoints) on.before.before.setpoints_at-setpoints.ensures h in
     let v = on.before.before.before.before.before.compared-v in
@@ -67,17 +67,17 @@ returns-2 c st h e runs =
     held_as (step-finished _ st _ _ _ _ _ n on.before.before.before.before.is_fit-fit.ensures ev ea _ _ runs back refl refl _ _ c.before.before.before.before.before.before.before.before.if-a.true refl refl)
     (c.before.before.bring_in.ensures _ (c.before.before.before.before.before.before.book_batch.ensures st h))
 
-put-sequence-requires-2 : tie.Need-put_sequence-requires-2
-put-sequence-requires-2 c κs = search rules
+put_sequence-requires-2 : tie.Need-put_sequence-requires-2
+put_sequence-requires-2 c κs = search rules
 
-bring-in-requires-2 : tie.Need-bring_in-requires-2
-bring-in-requires-2 c κs = search rules
+bring_in-requires-2 : tie.Need-bring_in-requires-2
+bring_in-requires-2 c κs = search rules
 
-same-length-3 : tie.Need-shape_of-state
-same-length-3 c = search rules
+shape_of-state : tie.Need-shape_of-state
+shape_of-state c = search rules
 
-returns-3 : tie.Need-returns
-returns-3 c st h e runs =
+returns : tie.Need-returns
+returns c st h e runs =
     let on = c.before.before.before.before.before.before.before.before.before.before.before.before in
     let n = read_part (λ (t : State). t.setpoints) on.before.before.setpoints_at-setpoints.ensures h in
     let v = on.before.before.before.before.before.compared-v in
@@ -91,19 +91,19 @@ pub go_on_spec : {M : Type 1} → statement M
 go_on_spec =
     tie.close
     (tie.spec
-    compared-requires
-    is-fit-requires
-    setpoints-at-requires
-    advance-requires
-    is-idle-requires
-    put-sequence-requires
-    same_length
-    returns
-    book-batch-requires
-    bring-in-requires
-    same-length-2
-    returns-2
-    put-sequence-requires-2
-    bring-in-requires-2
-    same-length-3
-    returns-3)
+    compared-v-requires
+    is_fit-fit-requires
+    setpoints_at-setpoints-requires
+    advance-a-requires
+    is_idle-requires
+    put_sequence-requires
+    shape_of-state-then-not-is_idle
+    returns-then-not-is_idle
+    book_batch-requires
+    bring_in-requires
+    shape_of-state-then-a
+    returns-then-a
+    put_sequence-requires-2
+    bring_in-requires-2
+    shape_of-state
+    returns)

@@ -9,17 +9,17 @@ use borrow.Author.Rules.{rules}
 use Rattle.board.proofs.steps.key_zero.Statement.{statement}
 use Rattle.board.proofs.steps.key_zero.Tie as tie
 
-weighing-at-requires : tie.Need-weighing_at-weighing-requires
-weighing-at-requires c κs = search rules
+weighing_at-weighing-requires : tie.Need-weighing_at-weighing-requires
+weighing_at-weighing-requires c κs = search rules
 
 zeroed-requires : tie.Need-zeroed-requires
 zeroed-requires c κs = search rules
 
-put-weighing-requires : tie.Need-put_weighing-requires
-put-weighing-requires c κs = search rules
+put_weighing-requires : tie.Need-put_weighing-requires
+put_weighing-requires c κs = search rules
 
-same_length : tie.Need-shape_of-state
-same_length c = search rules
+shape_of-state : tie.Need-shape_of-state
+shape_of-state c = search rules
 
 returns : tie.Need-returns
 returns c st h =
@@ -31,4 +31,4 @@ returns c st h =
 pub key_zero_spec : {M : Type 1} → statement M
 key_zero_spec =
     tie.close
-    (tie.spec weighing-at-requires zeroed-requires put-weighing-requires same_length returns)
+    (tie.spec weighing_at-weighing-requires zeroed-requires put_weighing-requires shape_of-state returns)

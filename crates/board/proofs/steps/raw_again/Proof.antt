@@ -10,13 +10,13 @@ use Rattle.board.proofs.steps.raw_again.Tie as tie
 raw : (s : tie.Start) → SFits w32 s.args.x.raw
 raw s = search (sfits_of, s.well-formed.0)
 
-returns : tie.Need-returns-then-x
+returns-then-x : tie.Need-returns-then-x
 unfolding raw_in
-returns c = simp (c.before.if-x.true, to_z-of_z (raw c.before.before))
+returns-then-x c = simp (c.before.if-x.true, to_z-of_z (raw c.before.before))
 
-returns-2 : tie.Need-returns
+returns : tie.Need-returns
 unfolding raw_in
-returns-2 c = simp c.if-x.false
+returns c = simp c.if-x.false
 
 pub raw_again_spec : {M : Type 1} → statement M
-raw_again_spec = tie.close (tie.spec returns returns-2)
+raw_again_spec = tie.close (tie.spec returns-then-x returns)

@@ -25,35 +25,35 @@ due c st h =
     (read_waiting c.before.before.before.before.before.before.before.before.before.waiting_at-waiting.ensures h) a.command
     ∙ ap (λ (x : Reading). reply_due a.command st x a.outcome) c.before.before.before.before.before.reading-reading.ensures
 
-panel-at-requires : tie.Need-panel_at-panel-requires
-panel-at-requires c κs = search rules
+panel_at-panel-requires : tie.Need-panel_at-panel-requires
+panel_at-panel-requires c κs = search rules
 
-setpoints-at-requires : tie.Need-setpoints_at-setpoints-requires
-setpoints-at-requires c κs = search rules
+setpoints_at-setpoints-requires : tie.Need-setpoints_at-setpoints-requires
+setpoints_at-setpoints-requires c κs = search rules
 
-waiting-at-requires : tie.Need-waiting_at-waiting-requires
-waiting-at-requires c κs = search rules
+waiting_at-waiting-requires : tie.Need-waiting_at-waiting-requires
+waiting_at-waiting-requires c κs = search rules
 
-totals-at-requires : tie.Need-totals_at-totals-requires
-totals-at-requires c κs = search rules
+totals_at-totals-requires : tie.Need-totals_at-totals-requires
+totals_at-totals-requires c κs = search rules
 
-open-book-requires : tie.Need-open_book-requires
-open-book-requires c κs = search rules
+open_book-requires : tie.Need-open_book-requires
+open_book-requires c κs = search rules
 
-open-sequence-requires : tie.Need-open_sequence-requires
-open-sequence-requires c κs = search rules
+open_sequence-requires : tie.Need-open_sequence-requires
+open_sequence-requires c κs = search rules
 
-reading-requires : tie.Need-reading-reading-requires
-reading-requires c κs = search rules
+reading-reading-requires : tie.Need-reading-reading-requires
+reading-reading-requires c κs = search rules
 
-reply-due-requires : tie.Need-reply_due-due-requires
-reply-due-requires c κs = search rules
+reply_due-due-requires : tie.Need-reply_due-due-requires
+reply_due-due-requires c κs = search rules
 
-write-reply-requires : tie.Need-write_reply-requires
-write-reply-requires c κs = search rules
+write_reply-requires : tie.Need-write_reply-requires
+write_reply-requires c κs = search rules
 
-same_length : tie.Need-shape_of-reply
-same_length c = search rules
+shape_of-reply : tie.Need-shape_of-reply
+shape_of-reply c = search rules
 
 returns : tie.Need-returns
 returns c =
@@ -66,14 +66,14 @@ pub reply_spec : {M : Type 1} → statement M
 reply_spec =
     tie.close
     (tie.spec
-    panel-at-requires
-    setpoints-at-requires
-    waiting-at-requires
-    totals-at-requires
-    open-book-requires
-    open-sequence-requires
-    reading-requires
-    reply-due-requires
-    write-reply-requires
-    same_length
+    panel_at-panel-requires
+    setpoints_at-setpoints-requires
+    waiting_at-waiting-requires
+    totals_at-totals-requires
+    open_book-requires
+    open_sequence-requires
+    reading-reading-requires
+    reply_due-due-requires
+    write_reply-requires
+    shape_of-reply
     returns)

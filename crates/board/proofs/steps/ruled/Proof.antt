@@ -7,11 +7,11 @@ use borrow.Author.Rules.{rules}
 use Rattle.board.proofs.steps.ruled.Statement.{statement}
 use Rattle.board.proofs.steps.ruled.Tie as tie
 
-sequence-at-requires : tie.Need-sequence_at-sequence-requires
-sequence-at-requires c κs = search rules
+sequence_at-sequence-requires : tie.Need-sequence_at-sequence-requires
+sequence_at-sequence-requires c κs = search rules
 
-totals-at-requires : tie.Need-totals_at-totals-requires
-totals-at-requires c κs = search rules
+totals_at-totals-requires : tie.Need-totals_at-totals-requires
+totals_at-totals-requires c κs = search rules
 
 ruling-requires : tie.Need-ruling-requires
 ruling-requires c κs = search rules
@@ -25,4 +25,4 @@ returns c st h =
     c.ruling.ensures ∙ (λ i. first_of (rows_to a.s.range a.s.batching-1.mode (q i) (t i) a.x a.request))
 
 pub ruled_spec : {M : Type 1} → statement M
-ruled_spec = tie.close (tie.spec sequence-at-requires totals-at-requires ruling-requires returns)
+ruled_spec = tie.close (tie.spec sequence_at-sequence-requires totals_at-totals-requires ruling-requires returns)

@@ -30,17 +30,17 @@ leaving a = a.state-1
 abbrev closing : List ℕ → Settled → List ℕ
 closing l a = closed_put a.closed l
 
-put-none-requires : tie.Need-put_none-requires
-put-none-requires c κs = search rules
+put_none-requires : tie.Need-put_none-requires
+put_none-requires c κs = search rules
 
 enum_told : tie.Need-enum_told-1
 enum_told c = search rules
 
-same_length : tie.Need-shape_of-answer-in-Nothing
-same_length c = search rules
+shape_of-answer-in-Nothing : tie.Need-shape_of-answer-in-Nothing
+shape_of-answer-in-Nothing c = search rules
 
-returns : tie.Need-returns-in-Nothing
-returns c =
+returns-in-Nothing : tie.Need-returns-in-Nothing
+returns-in-Nothing c =
     let start = c.before.before.before.before.before.before.before.before in
     let told = ap beside_batch c.enum_told-1.given.1 in
     let x = start.args.x in (
@@ -48,20 +48,20 @@ returns c =
       (λ st h. c.before.before.before.before.put_none.ensures ∙ ap (closing start.args.answer-1.now) (left_nothing st x _ told)),
     )
 
-enum-told-2 : tie.Need-enum_told-in-Zero
-enum-told-2 c = search rules
+enum_told-in-Zero : tie.Need-enum_told-in-Zero
+enum_told-in-Zero c = search rules
 
-key-zero-requires : tie.Need-key_zero-requires
-key-zero-requires c κs = search rules
+key_zero-requires : tie.Need-key_zero-requires
+key_zero-requires c κs = search rules
 
-same-length-2 : tie.Need-shape_of-state-in-Zero
-same-length-2 c = search rules
+shape_of-state-in-Zero : tie.Need-shape_of-state-in-Zero
+shape_of-state-in-Zero c = search rules
 
-same-length-3 : tie.Need-shape_of-answer-in-Zero
-same-length-3 c = search rules
+shape_of-answer-in-Zero : tie.Need-shape_of-answer-in-Zero
+shape_of-answer-in-Zero c = search rules
 
-returns-2 : tie.Need-returns-in-Zero
-returns-2 c =
+returns-in-Zero : tie.Need-returns-in-Zero
+returns-in-Zero c =
     let start = c.before.before.before.before.before.before.before.before.before.before.before.before.before in
     let told = ap beside_batch c.before.before.before.before.before.enum_told-in-Zero-1.given.1 in
     let x = start.args.x in (
@@ -69,20 +69,20 @@ returns-2 c =
       (λ st h. c.before.before.before.before.before.before.before.before.before.put_none.ensures ∙ ap (closing start.args.answer-1.now) (left_zero st x _ told _ refl)),
     )
 
-enum-told-3 : tie.Need-enum_told-in-Tare
-enum-told-3 c = search rules
+enum_told-in-Tare : tie.Need-enum_told-in-Tare
+enum_told-in-Tare c = search rules
 
-put-tare-requires : tie.Need-put_tare-requires
-put-tare-requires c κs = search rules
+put_tare-requires : tie.Need-put_tare-requires
+put_tare-requires c κs = search rules
 
-same-length-4 : tie.Need-shape_of-state-in-Tare
-same-length-4 c = search rules
+shape_of-state-in-Tare : tie.Need-shape_of-state-in-Tare
+shape_of-state-in-Tare c = search rules
 
-same-length-5 : tie.Need-shape_of-answer-in-Tare
-same-length-5 c = search rules
+shape_of-answer-in-Tare : tie.Need-shape_of-answer-in-Tare
+shape_of-answer-in-Tare c = search rules
 
-returns-3 : tie.Need-returns-in-Tare
-returns-3 c =
+returns-in-Tare : tie.Need-returns-in-Tare
+returns-in-Tare c =
     let start = c.before.before.before.before.before.before.before.before.before.before.before.before.before in
     let told = ap beside_batch c.before.before.before.before.before.enum_told-in-Tare-1.given.1 in
     let x = start.args.x in (
@@ -90,20 +90,20 @@ returns-3 c =
       (λ st h. c.before.before.before.before.before.before.before.before.before.put_none.ensures ∙ ap (closing start.args.answer-1.now) (left_tare st x _ told _ refl)),
     )
 
-enum-told-4 : tie.Need-enum_told-in-TareClear
-enum-told-4 c = search rules
+enum_told-in-TareClear : tie.Need-enum_told-in-TareClear
+enum_told-in-TareClear c = search rules
 
-put-tare-requires-2 : tie.Need-put_tare-requires-in-TareClear
-put-tare-requires-2 c κs = search rules
+put_tare-requires-in-TareClear : tie.Need-put_tare-requires-in-TareClear
+put_tare-requires-in-TareClear c κs = search rules
 
-same-length-6 : tie.Need-shape_of-state-in-TareClear
-same-length-6 c = search rules
+shape_of-state-in-TareClear : tie.Need-shape_of-state-in-TareClear
+shape_of-state-in-TareClear c = search rules
 
-same-length-7 : tie.Need-shape_of-answer-in-TareClear
-same-length-7 c = search rules
+shape_of-answer-in-TareClear : tie.Need-shape_of-answer-in-TareClear
+shape_of-answer-in-TareClear c = search rules
 
-returns-4 : tie.Need-returns-in-TareClear
-returns-4 c =
+returns-in-TareClear : tie.Need-returns-in-TareClear
+returns-in-TareClear c =
     let start = c.before.before.before.before.before.before.before.before.before.before.before.before in
     let told = ap beside_batch c.before.before.before.before.enum_told-in-TareClear-1.given.1 in
     let x = start.args.x in (
@@ -111,14 +111,14 @@ returns-4 c =
       (λ st h. c.before.before.before.before.before.before.before.before.put_none.ensures ∙ ap (closing start.args.answer-1.now) (left_tare_clear st x _ told _ refl)),
     )
 
-enum-told-5 : tie.Need-enum_told-in-Start
-enum-told-5 c = search rules
+enum_told-in-Start : tie.Need-enum_told-in-Start
+enum_told-in-Start c = search rules
 
-same-length-8 : tie.Need-shape_of-answer-in-Start
-same-length-8 c = search rules
+shape_of-answer-in-Start : tie.Need-shape_of-answer-in-Start
+shape_of-answer-in-Start c = search rules
 
-returns-5 : tie.Need-returns-in-Start
-returns-5 c =
+returns-in-Start : tie.Need-returns-in-Start
+returns-in-Start c =
     let start = c.before.before.before.before.before.before.before.before in
     let told = ap beside_batch c.enum_told-in-Start-1.given.1 in
     let x = start.args.x in (
@@ -126,14 +126,14 @@ returns-5 c =
       (λ st h. c.before.before.before.before.put_none.ensures ∙ ap (closing start.args.answer-1.now) (left_nothing st x _ told)),
     )
 
-enum-told-6 : tie.Need-enum_told-in-Stop
-enum-told-6 c = search rules
+enum_told-in-Stop : tie.Need-enum_told-in-Stop
+enum_told-in-Stop c = search rules
 
-same-length-9 : tie.Need-shape_of-answer-in-Stop
-same-length-9 c = search rules
+shape_of-answer-in-Stop : tie.Need-shape_of-answer-in-Stop
+shape_of-answer-in-Stop c = search rules
 
-returns-6 : tie.Need-returns-in-Stop
-returns-6 c =
+returns-in-Stop : tie.Need-returns-in-Stop
+returns-in-Stop c =
     let start = c.before.before.before.before.before.before.before.before in
     let told = ap beside_batch c.enum_told-in-Stop-1.given.1 in
     let x = start.args.x in (
@@ -141,14 +141,14 @@ returns-6 c =
       (λ st h. c.before.before.before.before.put_none.ensures ∙ ap (closing start.args.answer-1.now) (left_nothing st x _ told)),
     )
 
-enum-told-7 : tie.Need-enum_told-in-Set
-enum-told-7 c = search rules
+enum_told-in-Set : tie.Need-enum_told-in-Set
+enum_told-in-Set c = search rules
 
-same-length-10 : tie.Need-shape_of-answer-in-Set
-same-length-10 c = search rules
+shape_of-answer-in-Set : tie.Need-shape_of-answer-in-Set
+shape_of-answer-in-Set c = search rules
 
-returns-7 : tie.Need-returns-in-Set
-returns-7 c =
+returns-in-Set : tie.Need-returns-in-Set
+returns-in-Set c =
     let start = c.before.before.before.before.before.before.before.before in
     let told = ap beside_batch c.enum_told-in-Set-1.given.1 in
     let x = start.args.x in (
@@ -156,23 +156,23 @@ returns-7 c =
       (λ st h. c.before.before.before.before.put_none.ensures ∙ ap (closing start.args.answer-1.now) (left_nothing st x _ told)),
     )
 
-enum-told-8 : tie.Need-enum_told-in-TotalClear
-enum-told-8 c = search rules
+enum_told-in-TotalClear : tie.Need-enum_told-in-TotalClear
+enum_told-in-TotalClear c = search rules
 
-clear-totals-requires : tie.Need-clear_totals-requires
-clear-totals-requires c κs = search rules
+clear_totals-requires : tie.Need-clear_totals-requires
+clear_totals-requires c κs = search rules
 
-put-totals-requires : tie.Need-put_totals-requires
-put-totals-requires c κs = search rules
+put_totals-requires : tie.Need-put_totals-requires
+put_totals-requires c κs = search rules
 
-same-length-11 : tie.Need-shape_of-state-in-TotalClear
-same-length-11 c = search rules
+shape_of-state-in-TotalClear : tie.Need-shape_of-state-in-TotalClear
+shape_of-state-in-TotalClear c = search rules
 
-same-length-12 : tie.Need-shape_of-answer-in-TotalClear
-same-length-12 c = search rules
+shape_of-answer-in-TotalClear : tie.Need-shape_of-answer-in-TotalClear
+shape_of-answer-in-TotalClear c = search rules
 
-returns-8 : tie.Need-returns-in-TotalClear
-returns-8 c =
+returns-in-TotalClear : tie.Need-returns-in-TotalClear
+returns-in-TotalClear c =
     let start = c.before.before.before.before.before.before.before.before.before.before.before.before.before in
     let told = ap beside_batch c.before.before.before.before.before.enum_told-in-TotalClear-1.given.1 in
     let x = start.args.x in (
@@ -180,20 +180,20 @@ returns-8 c =
       (λ st h. c.before.before.before.before.before.before.before.before.before.put_none.ensures ∙ ap (closing start.args.answer-1.now) (left_total_clear st x _ told _ c.before.before.before.clear_totals.ensures)),
     )
 
-enum-told-9 : tie.Need-enum_told-in-Undo
-enum-told-9 c = search rules
+enum_told-in-Undo : tie.Need-enum_told-in-Undo
+enum_told-in-Undo c = search rules
 
-take-back-requires : tie.Need-take_back-requires
-take-back-requires c κs = search rules
+take_back-requires : tie.Need-take_back-requires
+take_back-requires c κs = search rules
 
-same-length-13 : tie.Need-shape_of-state-in-Undo
-same-length-13 c = search rules
+shape_of-state-in-Undo : tie.Need-shape_of-state-in-Undo
+shape_of-state-in-Undo c = search rules
 
-same-length-14 : tie.Need-shape_of-answer-in-Undo
-same-length-14 c = search rules
+shape_of-answer-in-Undo : tie.Need-shape_of-answer-in-Undo
+shape_of-answer-in-Undo c = search rules
 
-returns-9 : tie.Need-returns-in-Undo
-returns-9 c =
+returns-in-Undo : tie.Need-returns-in-Undo
+returns-in-Undo c =
     let start = c.before.before.before.before.before.before.before.before.before.before.before.before in
     let told = ap beside_batch c.before.before.before.before.enum_told-in-Undo-1.given.1 in
     let x = start.args.x in (
@@ -201,20 +201,20 @@ returns-9 c =
       (λ st h. c.before.before.before.before.before.before.before.before.put_none.ensures ∙ ap (closing start.args.answer-1.now) (left_undo st x _ told _ refl)),
     )
 
-enum-told-10 : tie.Need-enum_told-in-ShowGross
-enum-told-10 c = search rules
+enum_told-in-ShowGross : tie.Need-enum_told-in-ShowGross
+enum_told-in-ShowGross c = search rules
 
 show-requires : tie.Need-show-requires
 show-requires c κs = search rules
 
-same-length-15 : tie.Need-shape_of-state-in-ShowGross
-same-length-15 c = search rules
+shape_of-state-in-ShowGross : tie.Need-shape_of-state-in-ShowGross
+shape_of-state-in-ShowGross c = search rules
 
-same-length-16 : tie.Need-shape_of-answer-in-ShowGross
-same-length-16 c = search rules
+shape_of-answer-in-ShowGross : tie.Need-shape_of-answer-in-ShowGross
+shape_of-answer-in-ShowGross c = search rules
 
-returns-10 : tie.Need-returns-in-ShowGross
-returns-10 c =
+returns-in-ShowGross : tie.Need-returns-in-ShowGross
+returns-in-ShowGross c =
     let start = c.before.before.before.before.before.before.before.before.before.before.before.before in
     let told = ap beside_batch c.before.before.before.before.enum_told-in-ShowGross-1.given.1 in
     let x = start.args.x in (
@@ -222,20 +222,20 @@ returns-10 c =
       (λ st h. c.before.before.before.before.before.before.before.before.put_none.ensures ∙ ap (closing start.args.answer-1.now) (left_gross st x _ told)),
     )
 
-enum-told-11 : tie.Need-enum_told-in-ShowNet
-enum-told-11 c = search rules
+enum_told-in-ShowNet : tie.Need-enum_told-in-ShowNet
+enum_told-in-ShowNet c = search rules
 
-show-requires-2 : tie.Need-show-requires-in-ShowNet
-show-requires-2 c κs = search rules
+show-requires-in-ShowNet : tie.Need-show-requires-in-ShowNet
+show-requires-in-ShowNet c κs = search rules
 
-same-length-17 : tie.Need-shape_of-state-in-ShowNet
-same-length-17 c = search rules
+shape_of-state-in-ShowNet : tie.Need-shape_of-state-in-ShowNet
+shape_of-state-in-ShowNet c = search rules
 
-same-length-18 : tie.Need-shape_of-answer-in-ShowNet
-same-length-18 c = search rules
+shape_of-answer-in-ShowNet : tie.Need-shape_of-answer-in-ShowNet
+shape_of-answer-in-ShowNet c = search rules
 
-returns-11 : tie.Need-returns-in-ShowNet
-returns-11 c =
+returns-in-ShowNet : tie.Need-returns-in-ShowNet
+returns-in-ShowNet c =
     let start = c.before.before.before.before.before.before.before.before.before.before.before.before in
     let told = ap beside_batch c.before.before.before.before.enum_told-in-ShowNet-1.given.1 in
     let x = start.args.x in (
@@ -243,20 +243,20 @@ returns-11 c =
       (λ st h. c.before.before.before.before.before.before.before.before.put_none.ensures ∙ ap (closing start.args.answer-1.now) (left_net st x _ told)),
     )
 
-enum-told-12 : tie.Need-enum_told-in-DayClose
-enum-told-12 c = search rules
+enum_told-in-DayClose : tie.Need-enum_told-in-DayClose
+enum_told-in-DayClose c = search rules
 
 close-requires : tie.Need-close-requires
 close-requires c κs = search rules
 
-same-length-19 : tie.Need-shape_of-state-in-DayClose
-same-length-19 c = search rules
+shape_of-state-in-DayClose : tie.Need-shape_of-state-in-DayClose
+shape_of-state-in-DayClose c = search rules
 
-same-length-20 : tie.Need-shape_of-answer-in-DayClose
-same-length-20 c = search rules
+shape_of-answer-in-DayClose : tie.Need-shape_of-answer-in-DayClose
+shape_of-answer-in-DayClose c = search rules
 
-returns-12 : tie.Need-returns-in-DayClose
-returns-12 c =
+returns-in-DayClose : tie.Need-returns-in-DayClose
+returns-in-DayClose c =
     let start = c.before.before.before.before.before.before.before.before.before.before.before.before.before.before.before in
     let told = ap beside_batch c.before.before.before.before.before.before.before.enum_told-in-DayClose-1.given.1 in
     let x = start.args.x in (
@@ -264,14 +264,14 @@ returns-12 c =
       (λ st h. c.before.before.before.before.close.ensures.1 st h ∙ ap (closed_put (closed.Day st.book)) c.before.before.before.before.before.before.before.before.before.before.before.put_none.ensures ∙ over_none closed.Nothing (closed.Day st.book) start.args.answer-1.now ∙ ap (closing start.args.answer-1.now) (left_close st x _ told _ refl)),
     )
 
-enum-told-13 : tie.Need-enum_told-in-Discharge
-enum-told-13 c = search rules
+enum_told-in-Discharge : tie.Need-enum_told-in-Discharge
+enum_told-in-Discharge c = search rules
 
-same-length-21 : tie.Need-shape_of-answer-in-Discharge
-same-length-21 c = search rules
+shape_of-answer-in-Discharge : tie.Need-shape_of-answer-in-Discharge
+shape_of-answer-in-Discharge c = search rules
 
-returns-13 : tie.Need-returns-in-Discharge
-returns-13 c =
+returns-in-Discharge : tie.Need-returns-in-Discharge
+returns-in-Discharge c =
     let start = c.before.before.before.before.before.before.before.before in
     let told = ap beside_batch c.enum_told-in-Discharge-1.given.1 in
     let x = start.args.x in (
@@ -283,60 +283,60 @@ pub settle_spec : {M : Type 1} → statement M
 settle_spec =
     tie.close
     (tie.spec
-    put-none-requires
+    put_none-requires
     enum_told
-    same_length
-    returns
-    enum-told-2
-    key-zero-requires
-    same-length-2
-    same-length-3
-    returns-2
-    enum-told-3
-    put-tare-requires
-    same-length-4
-    same-length-5
-    returns-3
-    enum-told-4
-    put-tare-requires-2
-    same-length-6
-    same-length-7
-    returns-4
-    enum-told-5
-    same-length-8
-    returns-5
-    enum-told-6
-    same-length-9
-    returns-6
-    enum-told-7
-    same-length-10
-    returns-7
-    enum-told-8
-    clear-totals-requires
-    put-totals-requires
-    same-length-11
-    same-length-12
-    returns-8
-    enum-told-9
-    take-back-requires
-    same-length-13
-    same-length-14
-    returns-9
-    enum-told-10
+    shape_of-answer-in-Nothing
+    returns-in-Nothing
+    enum_told-in-Zero
+    key_zero-requires
+    shape_of-state-in-Zero
+    shape_of-answer-in-Zero
+    returns-in-Zero
+    enum_told-in-Tare
+    put_tare-requires
+    shape_of-state-in-Tare
+    shape_of-answer-in-Tare
+    returns-in-Tare
+    enum_told-in-TareClear
+    put_tare-requires-in-TareClear
+    shape_of-state-in-TareClear
+    shape_of-answer-in-TareClear
+    returns-in-TareClear
+    enum_told-in-Start
+    shape_of-answer-in-Start
+    returns-in-Start
+    enum_told-in-Stop
+    shape_of-answer-in-Stop
+    returns-in-Stop
+    enum_told-in-Set
+    shape_of-answer-in-Set
+    returns-in-Set
+    enum_told-in-TotalClear
+    clear_totals-requires
+    put_totals-requires
+    shape_of-state-in-TotalClear
+    shape_of-answer-in-TotalClear
+    returns-in-TotalClear
+    enum_told-in-Undo
+    take_back-requires
+    shape_of-state-in-Undo
+    shape_of-answer-in-Undo
+    returns-in-Undo
+    enum_told-in-ShowGross
     show-requires
-    same-length-15
-    same-length-16
-    returns-10
-    enum-told-11
-    show-requires-2
-    same-length-17
-    same-length-18
-    returns-11
-    enum-told-12
+    shape_of-state-in-ShowGross
+    shape_of-answer-in-ShowGross
+    returns-in-ShowGross
+    enum_told-in-ShowNet
+    show-requires-in-ShowNet
+    shape_of-state-in-ShowNet
+    shape_of-answer-in-ShowNet
+    returns-in-ShowNet
+    enum_told-in-DayClose
     close-requires
-    same-length-19
-    same-length-20
-    returns-12
-    enum-told-13
-    same-length-21
-    returns-13)
+    shape_of-state-in-DayClose
+    shape_of-answer-in-DayClose
+    returns-in-DayClose
+    enum_told-in-Discharge
+    shape_of-answer-in-Discharge
+    returns-in-Discharge)

@@ -10,31 +10,31 @@ use borrow.Author.Rules.{rules}
 use Rattle.board.proofs.steps.step.Statement.{statement}
 use Rattle.board.proofs.steps.step.Tie as tie
 
-returns : tie.Need-returns-then-held
-returns c st h = held_as (λ i. pick_state (sym c.if-held.true i) st (stepped_of c.before.before.args.s st c.before.before.args.x)) h
+returns-then-held : tie.Need-returns-then-held
+returns-then-held c st h = held_as (λ i. pick_state (sym c.if-held.true i) st (stepped_of c.before.before.args.s st c.before.before.args.x)) h
 
-sequence-at-requires : tie.Need-sequence_at-sequence-requires
-sequence-at-requires c κs = search rules
+sequence_at-sequence-requires : tie.Need-sequence_at-sequence-requires
+sequence_at-sequence-requires c κs = search rules
 
-is-idle-requires : tie.Need-is_idle-requires
-is-idle-requires c κs = search rules
+is_idle-requires : tie.Need-is_idle-requires
+is_idle-requires c κs = search rules
 
-same_length : tie.Need-shape_of-state-then-is_idle
-same_length c = search rules
+shape_of-state-then-is_idle : tie.Need-shape_of-state-then-is_idle
+shape_of-state-then-is_idle c = search rules
 
-returns-2 : tie.Need-returns-then-is_idle
-returns-2 c st h =
+returns-then-is_idle : tie.Need-returns-then-is_idle
+returns-then-is_idle c st h =
     let q = read_part (λ (t : State). t.sequence) c.before.before.sequence_at-sequence.ensures h in
     held_as (stepped_on _ st _ _ _ c.before.before.before.before.if-held.false (step_idle _ st _ (sym (c.before.is_idle.ensures ∙ (λ i. idle_of (q i).stage)) ∙ c.if-is_idle.true))) h
 
-go-on-requires : tie.Need-go_on-requires
-go-on-requires c κs = search rules
+go_on-requires : tie.Need-go_on-requires
+go_on-requires c κs = search rules
 
-same-length-2 : tie.Need-shape_of-state
-same-length-2 c = search rules
+shape_of-state : tie.Need-shape_of-state
+shape_of-state c = search rules
 
-returns-3 : tie.Need-returns
-returns-3 c st h =
+returns : tie.Need-returns
+returns c st h =
     let q = read_part (λ (t : State). t.sequence) c.before.before.before.before.before.before.sequence_at-sequence.ensures h in
     let runs = sym (c.before.before.before.before.before.is_idle.ensures ∙ (λ i. idle_of (q i).stage)) ∙ c.before.before.before.before.if-is_idle.false in
     held_as (stepped_on _ st _ _ _ c.before.before.before.before.before.before.before.before.if-held.false refl) (c.before.before.go_on.ensures st h q runs)
@@ -43,11 +43,11 @@ pub step_spec : {M : Type 1} → statement M
 step_spec =
     tie.close
     (tie.spec
-    returns
-    sequence-at-requires
-    is-idle-requires
-    same_length
-    returns-2
-    go-on-requires
-    same-length-2
-    returns-3)
+    returns-then-held
+    sequence_at-sequence-requires
+    is_idle-requires
+    shape_of-state-then-is_idle
+    returns-then-is_idle
+    go_on-requires
+    shape_of-state
+    returns)

@@ -8,17 +8,17 @@ use borrow.Author.Rules.{rules}
 use Rattle.board.proofs.steps.take_back.Statement.{statement}
 use Rattle.board.proofs.steps.take_back.Tie as tie
 
-totals-at-requires : tie.Need-totals_at-totals-requires
-totals-at-requires c κs = search rules
+totals_at-totals-requires : tie.Need-totals_at-totals-requires
+totals_at-totals-requires c κs = search rules
 
-take-back-requires : tie.Need-take_back-requires
-take-back-requires c κs = search rules
+take_back-requires : tie.Need-take_back-requires
+take_back-requires c κs = search rules
 
-put-totals-requires : tie.Need-put_totals-requires
-put-totals-requires c κs = search rules
+put_totals-requires : tie.Need-put_totals-requires
+put_totals-requires c κs = search rules
 
-same_length : tie.Need-shape_of-state
-same_length c = search rules
+shape_of-state : tie.Need-shape_of-state
+shape_of-state c = search rules
 
 returns : tie.Need-returns
 returns c st h = held_as (λ i. with_totals st ((c.before.before.before.take_back.ensures ∙ ap taken_back (read_part (λ (t : State). t.totals) c.before.before.before.before.before.totals_at-totals.ensures h)) i)) (c.before.before.put_totals.ensures.0 st h)
@@ -26,4 +26,4 @@ returns c st h = held_as (λ i. with_totals st ((c.before.before.before.take_bac
 pub take_back_spec : {M : Type 1} → statement M
 take_back_spec =
     tie.close
-    (tie.spec totals-at-requires take-back-requires put-totals-requires same_length returns)
+    (tie.spec totals_at-totals-requires take_back-requires put_totals-requires shape_of-state returns)

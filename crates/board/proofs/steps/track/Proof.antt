@@ -9,23 +9,23 @@ use borrow.Author.Rules.{rules}
 use Rattle.board.proofs.steps.track.Statement.{statement}
 use Rattle.board.proofs.steps.track.Tie as tie
 
-sequence-at-requires : tie.Need-sequence_at-sequence-requires
-sequence-at-requires c κs = search rules
+sequence_at-sequence-requires : tie.Need-sequence_at-sequence-requires
+sequence_at-sequence-requires c κs = search rules
 
-is-idle-requires : tie.Need-is_idle-idle-requires
-is-idle-requires c κs = search rules
+is_idle-idle-requires : tie.Need-is_idle-idle-requires
+is_idle-idle-requires c κs = search rules
 
-weighing-at-requires : tie.Need-weighing_at-weighing-requires
-weighing-at-requires c κs = search rules
+weighing_at-weighing-requires : tie.Need-weighing_at-weighing-requires
+weighing_at-weighing-requires c κs = search rules
 
 tracked-requires : tie.Need-tracked-requires
 tracked-requires c κs = search rules
 
-put-weighing-requires : tie.Need-put_weighing-requires
-put-weighing-requires c κs = search rules
+put_weighing-requires : tie.Need-put_weighing-requires
+put_weighing-requires c κs = search rules
 
-same_length : tie.Need-shape_of-state
-same_length c = search rules
+shape_of-state : tie.Need-shape_of-state
+shape_of-state c = search rules
 
 returns : tie.Need-returns
 returns c st h =
@@ -40,10 +40,10 @@ pub track_spec : {M : Type 1} → statement M
 track_spec =
     tie.close
     (tie.spec
-    sequence-at-requires
-    is-idle-requires
-    weighing-at-requires
+    sequence_at-sequence-requires
+    is_idle-idle-requires
+    weighing_at-weighing-requires
     tracked-requires
-    put-weighing-requires
-    same_length
+    put_weighing-requires
+    shape_of-state
     returns)

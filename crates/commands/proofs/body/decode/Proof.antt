@@ -4,14 +4,14 @@ use Rattle.outline.specs.Lines.{decode_of}
 use Rattle.commands.proofs.body.decode.Statement.{statement}
 use Rattle.commands.proofs.body.decode.Tie as tie
 
-add-end : tie.Need-overflow_add-end
-add-end c = search rules
+overflow_add-end : tie.Need-overflow_add-end
+overflow_add-end c = search rules
 
-enum-known-letters : tie.Need-enum_known-letters
-enum-known-letters c = search rules
+enum_known-letters : tie.Need-enum_known-letters
+enum_known-letters c = search rules
 
-cast-sized : tie.Need-overflow_cast-end-in-One
-cast-sized c = search rules
+overflow_cast-end-in-One : tie.Need-overflow_cast-end-in-One
+overflow_cast-end-in-One c = search rules
 
 sized-requires : tie.Need-sized-requires
 sized-requires c κs = search rules
@@ -19,47 +19,47 @@ sized-requires c κs = search rules
 enum_told : tie.Need-enum_told-1
 enum_told c = search rules
 
-add-sized : tie.Need-overflow_add-at
-add-sized c = search rules
+overflow_add-at : tie.Need-overflow_add-at
+overflow_add-at c = search rules
 
 fields-requires : tie.Need-fields-requires
 fields-requires c κs = search rules
 
-set-of-requires : tie.Need-set_of-requires
-set-of-requires c κs = search rules
+set_of-requires : tie.Need-set_of-requires
+set_of-requires c κs = search rules
 
-sized-requires-2 : tie.Need-sized-requires-in-Set
-sized-requires-2 c κs = search rules
+sized-requires-in-Set : tie.Need-sized-requires-in-Set
+sized-requires-in-Set c κs = search rules
 
-enum-told-2 : tie.Need-enum_told-in-Other
-enum-told-2 c = search rules
+enum_told-in-Other : tie.Need-enum_told-in-Other
+enum_told-in-Other c = search rules
 
-returns : tie.Need-returns-in-One
+returns-in-One : tie.Need-returns-in-One
 unfolding decode_of
-returns c = simp (c.sized.ensures, c.before.before.letters-1.given.1)
+returns-in-One c = simp (c.sized.ensures, c.before.before.letters-1.given.1)
 
-returns-2 : tie.Need-returns-in-Set
+returns-in-Set : tie.Need-returns-in-Set
 unfolding decode_of
-returns-2 c = simp (c.sized-in-Set.ensures, c.before.set_of.ensures, c.before.before.fields.ensures, c.before.before.before.enum_told-1.given.1)
+returns-in-Set c = simp (c.sized-in-Set.ensures, c.before.set_of.ensures, c.before.before.fields.ensures, c.before.before.before.enum_told-1.given.1)
 
-returns-3 : tie.Need-returns-in-Other
+returns-in-Other : tie.Need-returns-in-Other
 unfolding decode_of
-returns-3 c = simp c.enum_told-in-Other-1.given.1
+returns-in-Other c = simp c.enum_told-in-Other-1.given.1
 
 pub decode_spec : {M : Type 1} → statement M
 decode_spec =
     tie.close
     (tie.spec
-    add-end
-    enum-known-letters
-    cast-sized
+    overflow_add-end
+    enum_known-letters
+    overflow_cast-end-in-One
     sized-requires
     enum_told
-    add-sized
+    overflow_add-at
     fields-requires
-    set-of-requires
-    sized-requires-2
-    enum-told-2
-    returns
-    returns-2
-    returns-3)
+    set_of-requires
+    sized-requires-in-Set
+    enum_told-in-Other
+    returns-in-One
+    returns-in-Set
+    returns-in-Other)

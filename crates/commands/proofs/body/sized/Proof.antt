@@ -3,11 +3,11 @@ use borrow.Author.Tests.{eq-eqb, ne_eqb}
 use Rattle.commands.proofs.body.sized.Statement.{statement}
 use Rattle.commands.proofs.body.sized.Tie as tie
 
-returns : tie.Need-returns-then-line-due
-returns c = simp (eq-eqb _ _ c.if-line-due.true)
+returns-then-line-due : tie.Need-returns-then-line-due
+returns-then-line-due c = simp (eq-eqb _ _ c.if-line-due.true)
 
-returns-2 : tie.Need-returns-else-line-due
-returns-2 c = simp (ne_eqb _ _ c.if-line-due.false)
+returns-else-line-due : tie.Need-returns-else-line-due
+returns-else-line-due c = simp (ne_eqb _ _ c.if-line-due.false)
 
 pub sized_spec : {M : Type 1} → statement M
-sized_spec = tie.close (tie.spec returns returns-2)
+sized_spec = tie.close (tie.spec returns-then-line-due returns-else-line-due)

@@ -10,51 +10,51 @@ use Rattle.outline.specs.Lines.{field_of}
 use Rattle.commands.proofs.fields.field.Statement.{statement}
 use Rattle.commands.proofs.fields.field.Tie as tie
 
-returns : tie.Need-returns-then-line-lt-FIELD_WIDTH
+returns-then-line-lt-FIELD_WIDTH : tie.Need-returns-then-line-lt-FIELD_WIDTH
 unfolding field_of
-returns c =
+returns-then-line-lt-FIELD_WIDTH c =
     let short : length c.before.before.args.line.now < c.before.before.args.at + 6 = omega arith in simp (lt-leb _ _ short)
 
-sub-if2 : tie.Need-overflow_sub-line
-sub-if2 c = search rules
+overflow_sub-line : tie.Need-overflow_sub-line
+overflow_sub-line c = search rules
 
-add-end : tie.Need-overflow_add-end
-add-end c = search rules
+overflow_add-end : tie.Need-overflow_add-end
+overflow_add-end c = search rules
 
-sub-number-of : tie.Need-slice_bounds-number_of-count
-sub-number-of c = search rules
+slice_bounds-number_of-count : tie.Need-slice_bounds-number_of-count
+slice_bounds-number_of-count c = search rules
 
-part-number-of-start : tie.Need-slice-bounds-number-of-start
-part-number-of-start c = search rules
+slice-bounds-number-of-start : tie.Need-slice-bounds-number-of-start
+slice-bounds-number-of-start c = search rules
 
-part-number-of-end : tie.Need-slice-bounds-number-of-end
-part-number-of-end c = search rules
+slice-bounds-number-of-end : tie.Need-slice-bounds-number-of-end
+slice-bounds-number-of-end c = search rules
 
-number-of-requires : tie.Need-number_of-requires
-number-of-requires c κs = search rules
+number_of-requires : tie.Need-number_of-requires
+number_of-requires c κs = search rules
 
-returns-2 : tie.Need-returns-then-at-line
+returns-then-at-line : tie.Need-returns-then-at-line
 unfolding field_of
-returns-2 c =
+returns-then-at-line c =
     let s = c.before.before.before.before.before in
     let long : s.args.at + 6 ≤ length s.args.line.now = omega arith in
     c.number_of_lem.ensures ∙ simp (le-leb _ _ long, add-sub_cancel_left)
 
-returns-3 : tie.Need-returns-else-at-line
+returns-else-at-line : tie.Need-returns-else-at-line
 unfolding field_of
-returns-3 c =
+returns-else-at-line c =
     let short : length c.before.before.before.args.line.now < c.before.before.before.args.at + 6 = omega arith in simp (lt-leb _ _ short)
 
 pub field_spec : {M : Type 1} → statement M
 field_spec =
     tie.close
     (tie.spec
-    returns
-    sub-if2
-    add-end
-    sub-number-of
-    part-number-of-start
-    part-number-of-end
-    number-of-requires
-    returns-2
-    returns-3)
+    returns-then-line-lt-FIELD_WIDTH
+    overflow_sub-line
+    overflow_add-end
+    slice_bounds-number_of-count
+    slice-bounds-number-of-start
+    slice-bounds-number-of-end
+    number_of-requires
+    returns-then-at-line
+    returns-else-at-line)

@@ -7,53 +7,53 @@ use Rattle.commands.proofs.fields.fields.Tie as tie
 field-requires : tie.Need-field-requires
 field-requires c κs = search rules
 
-add-field : tie.Need-overflow_add-a
-add-field c = search rules
+overflow_add-a : tie.Need-overflow_add-a
+overflow_add-a c = search rules
 
 field-requires-2 : tie.Need-field-requires-2
 field-requires-2 c κs = search rules
 
-mul-field : tie.Need-overflow_mul-field
-mul-field c = search rules
+overflow_mul-field : tie.Need-overflow_mul-field
+overflow_mul-field c = search rules
 
-add-field-2 : tie.Need-overflow_add-a-2
-add-field-2 c = search rules
+overflow_add-a-2 : tie.Need-overflow_add-a-2
+overflow_add-a-2 c = search rules
 
 field-requires-3 : tie.Need-field-requires-3
 field-requires-3 c κs = search rules
 
-mul-field-2 : tie.Need-overflow_mul-field-2
-mul-field-2 c = search rules
+overflow_mul-field-2 : tie.Need-overflow_mul-field-2
+overflow_mul-field-2 c = search rules
 
-add-field-3 : tie.Need-overflow_add-a-3
-add-field-3 c = search rules
+overflow_add-a-3 : tie.Need-overflow_add-a-3
+overflow_add-a-3 c = search rules
 
 field-requires-4 : tie.Need-field-requires-4
 field-requires-4 c κs = search rules
 
-mul-field-3 : tie.Need-overflow_mul-field-3
-mul-field-3 c = search rules
+overflow_mul-field-3 : tie.Need-overflow_mul-field-3
+overflow_mul-field-3 c = search rules
 
-add-field-4 : tie.Need-overflow_add-a-4
-add-field-4 c = search rules
+overflow_add-a-4 : tie.Need-overflow_add-a-4
+overflow_add-a-4 c = search rules
 
 field-requires-5 : tie.Need-field-requires-5
 field-requires-5 c κs = search rules
 
-mul-field-4 : tie.Need-overflow_mul-field-4
-mul-field-4 c = search rules
+overflow_mul-field-4 : tie.Need-overflow_mul-field-4
+overflow_mul-field-4 c = search rules
 
-add-field-5 : tie.Need-overflow_add-a-5
-add-field-5 c = search rules
+overflow_add-a-5 : tie.Need-overflow_add-a-5
+overflow_add-a-5 c = search rules
 
 field-requires-6 : tie.Need-field-requires-6
 field-requires-6 c κs = search rules
 
-mul-field-5 : tie.Need-overflow_mul-field-5
-mul-field-5 c = search rules
+overflow_mul-field-5 : tie.Need-overflow_mul-field-5
+overflow_mul-field-5 c = search rules
 
-add-field-6 : tie.Need-overflow_add-a-6
-add-field-6 c = search rules
+overflow_add-a-6 : tie.Need-overflow_add-a-6
+overflow_add-a-6 c = search rules
 
 field-requires-7 : tie.Need-field-requires-7
 field-requires-7 c κs = search rules
@@ -70,22 +70,22 @@ fields_spec =
     tie.close
     (tie.spec
     field-requires
-    add-field
+    overflow_add-a
     field-requires-2
-    mul-field
-    add-field-2
+    overflow_mul-field
+    overflow_add-a-2
     field-requires-3
-    mul-field-2
-    add-field-3
+    overflow_mul-field-2
+    overflow_add-a-3
     field-requires-4
-    mul-field-3
-    add-field-4
+    overflow_mul-field-3
+    overflow_add-a-4
     field-requires-5
-    mul-field-4
-    add-field-5
+    overflow_mul-field-4
+    overflow_add-a-5
     field-requires-6
-    mul-field-5
-    add-field-6
+    overflow_mul-field-5
+    overflow_add-a-6
     field-requires-7
     seven-requires
     returns)

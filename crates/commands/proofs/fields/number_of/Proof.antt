@@ -13,10 +13,10 @@ use Rattle.commands.proofs.FieldLaws.{more, below, step, past}
 use Rattle.commands.proofs.fields.number_of.Statement.{statement}
 use Rattle.commands.proofs.fields.number_of.Tie as tie
 
-abbrev invariant_loop : tie.invariant_loop
+abbrev invariant_loop : tie.invariant-loop-i
 invariant_loop field v₀ i₀ v i = (i ≤ length field) × (v < 10 ^ i) × (number_from v (drop i field) ≡ number_from 0 field)
 
-abbrev decreases_loop : tie.decreases_loop
+abbrev decreases_loop : tie.decreases-loop-i
 decreases_loop field v₀ i₀ v i = length field - i
 
 -- in a turn, after the test
@@ -39,46 +39,46 @@ module _ (c : tie.After-is_digit invariant_loop decreases_loop) where
   small : L.loop-i.v < 100000
   small = below L.loop-i.inv.1 (omega (arith, L.before.before.pre))
 
-loop-holds : tie.Need-loop-i-init invariant_loop decreases_loop
-loop-holds c = (zero-le, lit< tt, refl)
+loop-i-init : tie.Need-loop-i-init invariant_loop decreases_loop
+loop-i-init c = (zero-le, lit< tt, refl)
 
-shared-slice-read-b : tie.Need-bounds-field-i invariant_loop decreases_loop
-shared-slice-read-b c = omega arith
+bounds-field-i : tie.Need-bounds-field-i invariant_loop decreases_loop
+bounds-field-i c = omega arith
 
-is-digit-requires : tie.Need-is_digit-requires invariant_loop decreases_loop
-is-digit-requires c κs = tt
+is_digit-requires : tie.Need-is_digit-requires invariant_loop decreases_loop
+is_digit-requires c κs = tt
 
-mul-v : tie.Need-overflow_mul-v invariant_loop decreases_loop
-mul-v c = omega (arith, small c.before)
+overflow_mul-v : tie.Need-overflow_mul-v invariant_loop decreases_loop
+overflow_mul-v c = omega (arith, small c.before)
 
-sub-v : tie.Need-overflow_sub-v invariant_loop decreases_loop
-sub-v c = (range c.before c.if-is_digit.true).0
+overflow_sub-v : tie.Need-overflow_sub-v invariant_loop decreases_loop
+overflow_sub-v c = (range c.before c.if-is_digit.true).0
 
-cast-v : tie.Need-overflow_cast-v invariant_loop decreases_loop
-cast-v c = omega (arith, range c.before c.if-is_digit.true)
+overflow_cast-v : tie.Need-overflow_cast-v invariant_loop decreases_loop
+overflow_cast-v c = omega (arith, range c.before c.if-is_digit.true)
 
-add-v : tie.Need-overflow_add-v invariant_loop decreases_loop
-add-v c = omega (arith, small c.before, range c.before c.if-is_digit.true)
+overflow_add-v : tie.Need-overflow_add-v invariant_loop decreases_loop
+overflow_add-v c = omega (arith, small c.before, range c.before c.if-is_digit.true)
 
-returns : tie.Need-returns-else-is_digit invariant_loop decreases_loop
-returns c = sym (went c.before ∙ simp c.if-is_digit.false)
+returns-else-is_digit : tie.Need-returns-else-is_digit invariant_loop decreases_loop
+returns-else-is_digit c = sym (went c.before ∙ simp c.if-is_digit.false)
 
-add-i : tie.Need-overflow_add-i invariant_loop decreases_loop
-add-i c = omega arith
+overflow_add-i : tie.Need-overflow_add-i invariant_loop decreases_loop
+overflow_add-i c = omega arith
 
-loop-less : tie.Need-loop-i-smaller invariant_loop decreases_loop
-loop-less c = omega arith
+loop-i-smaller : tie.Need-loop-i-smaller invariant_loop decreases_loop
+loop-i-smaller c = omega arith
 
-loop-again : tie.Need-loop-i-preserved invariant_loop decreases_loop
-loop-again c =
+loop-i-preserved : tie.Need-loop-i-preserved invariant_loop decreases_loop
+loop-i-preserved c =
     let r = range c.before c.if-is_digit.true in (
       omega arith,
       omega (arith, r, more _ c.before.before.before.before.loop-i.invariant.1),
       sym (went c.before ∙ simp c.if-is_digit.true),
     )
 
-returns-2 : tie.Need-returns invariant_loop decreases_loop
-returns-2 c = sym (sym c.before.loop-i.invariant.2 ∙ past _ _ _ c.loop-i-test.false)
+returns : tie.Need-returns invariant_loop decreases_loop
+returns c = sym (sym c.before.loop-i.invariant.2 ∙ past _ _ _ c.loop-i-test.false)
 
 pub number_of_spec : {M : Type 1} → statement M
 number_of_spec =
@@ -86,15 +86,15 @@ number_of_spec =
     (tie.spec
     invariant_loop
     decreases_loop
-    loop-holds
-    shared-slice-read-b
-    is-digit-requires
-    mul-v
-    sub-v
-    cast-v
-    add-v
-    returns
-    add-i
-    loop-less
-    loop-again
-    returns-2)
+    loop-i-init
+    bounds-field-i
+    is_digit-requires
+    overflow_mul-v
+    overflow_sub-v
+    overflow_cast-v
+    overflow_add-v
+    returns-else-is_digit
+    overflow_add-i
+    loop-i-smaller
+    loop-i-preserved
+    returns)

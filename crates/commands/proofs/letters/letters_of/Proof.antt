@@ -10,113 +10,113 @@ use Rattle.outline.specs.Lines.{letters_of, named}
 use Rattle.commands.proofs.letters.letters_of.Statement.{statement}
 use Rattle.commands.proofs.letters.letters_of.Tie as tie
 
-mul-pair : tie.Need-overflow_mul-pair
-mul-pair c = search rules
+overflow_mul-pair : tie.Need-overflow_mul-pair
+overflow_mul-pair c = search rules
 
-add-pair : tie.Need-overflow_add-pair
-add-pair c = search rules
+overflow_add-pair : tie.Need-overflow_add-pair
+overflow_add-pair c = search rules
 
-letters-for-requires : tie.Need-letters_for-requires
-letters-for-requires c κs = search rules
+letters_for-requires : tie.Need-letters_for-requires
+letters_for-requires c κs = search rules
 
-returns : tie.Need-returns-then-pair-letters_for
+returns-then-pair-letters_for : tie.Need-returns-then-pair-letters_for
 unfolding letters_of
-returns c = sym (ap named (c.if-pair-letters_for.true ∙ c.before.letters_for.ensures))
+returns-then-pair-letters_for c = sym (ap named (c.if-pair-letters_for.true ∙ c.before.letters_for.ensures))
 
-letters-for-requires-2 : tie.Need-letters_for-requires-2
-letters-for-requires-2 c κs = search rules
+letters_for-requires-2 : tie.Need-letters_for-requires-2
+letters_for-requires-2 c κs = search rules
 
-returns-2 : tie.Need-returns-then-pair-letters_for-2
+returns-then-pair-letters_for-2 : tie.Need-returns-then-pair-letters_for-2
 unfolding letters_of
-returns-2 c = sym (ap named (c.if-pair-letters_for-2.true ∙ c.before.letters_for-2.ensures))
+returns-then-pair-letters_for-2 c = sym (ap named (c.if-pair-letters_for-2.true ∙ c.before.letters_for-2.ensures))
 
-letters-for-requires-3 : tie.Need-letters_for-requires-3
-letters-for-requires-3 c κs = search rules
+letters_for-requires-3 : tie.Need-letters_for-requires-3
+letters_for-requires-3 c κs = search rules
 
-returns-3 : tie.Need-returns-then-pair-letters_for-3
+returns-then-pair-letters_for-3 : tie.Need-returns-then-pair-letters_for-3
 unfolding letters_of
-returns-3 c = sym (ap named (c.if-pair-letters_for-3.true ∙ c.before.letters_for-3.ensures))
+returns-then-pair-letters_for-3 c = sym (ap named (c.if-pair-letters_for-3.true ∙ c.before.letters_for-3.ensures))
 
-letters-for-requires-4 : tie.Need-letters_for-requires-4
-letters-for-requires-4 c κs = search rules
+letters_for-requires-4 : tie.Need-letters_for-requires-4
+letters_for-requires-4 c κs = search rules
 
-returns-4 : tie.Need-returns-then-pair-letters_for-4
+returns-then-pair-letters_for-4 : tie.Need-returns-then-pair-letters_for-4
 unfolding letters_of
-returns-4 c = sym (ap named (c.if-pair-letters_for-4.true ∙ c.before.letters_for-4.ensures))
+returns-then-pair-letters_for-4 c = sym (ap named (c.if-pair-letters_for-4.true ∙ c.before.letters_for-4.ensures))
 
-letters-for-requires-5 : tie.Need-letters_for-requires-5
-letters-for-requires-5 c κs = search rules
+letters_for-requires-5 : tie.Need-letters_for-requires-5
+letters_for-requires-5 c κs = search rules
 
-returns-5 : tie.Need-returns-then-pair-letters_for-5
+returns-then-pair-letters_for-5 : tie.Need-returns-then-pair-letters_for-5
 unfolding letters_of
-returns-5 c = sym (ap named (c.if-pair-letters_for-5.true ∙ c.before.letters_for-5.ensures))
+returns-then-pair-letters_for-5 c = sym (ap named (c.if-pair-letters_for-5.true ∙ c.before.letters_for-5.ensures))
 
-letters-for-requires-6 : tie.Need-letters_for-requires-6
-letters-for-requires-6 c κs = search rules
+letters_for-requires-6 : tie.Need-letters_for-requires-6
+letters_for-requires-6 c κs = search rules
 
-returns-6 : tie.Need-returns-then-pair-letters_for-6
+returns-then-pair-letters_for-6 : tie.Need-returns-then-pair-letters_for-6
 unfolding letters_of
-returns-6 c = sym (ap named (c.if-pair-letters_for-6.true ∙ c.before.letters_for-6.ensures))
+returns-then-pair-letters_for-6 c = sym (ap named (c.if-pair-letters_for-6.true ∙ c.before.letters_for-6.ensures))
 
-letters-for-requires-7 : tie.Need-letters_for-requires-7
-letters-for-requires-7 c κs = search rules
+letters_for-requires-7 : tie.Need-letters_for-requires-7
+letters_for-requires-7 c κs = search rules
 
-returns-7 : tie.Need-returns-then-pair-letters_for-7
+returns-then-pair-letters_for-7 : tie.Need-returns-then-pair-letters_for-7
 unfolding letters_of
-returns-7 c = sym (ap named (c.if-pair-letters_for-7.true ∙ c.before.letters_for-7.ensures))
+returns-then-pair-letters_for-7 c = sym (ap named (c.if-pair-letters_for-7.true ∙ c.before.letters_for-7.ensures))
 
-letters-for-requires-8 : tie.Need-letters_for-requires-8
-letters-for-requires-8 c κs = search rules
+letters_for-requires-8 : tie.Need-letters_for-requires-8
+letters_for-requires-8 c κs = search rules
 
-returns-8 : tie.Need-returns-then-pair-letters_for-8
+returns-then-pair-letters_for-8 : tie.Need-returns-then-pair-letters_for-8
 unfolding letters_of
-returns-8 c = sym (ap named (c.if-pair-letters_for-8.true ∙ c.before.letters_for-8.ensures))
+returns-then-pair-letters_for-8 c = sym (ap named (c.if-pair-letters_for-8.true ∙ c.before.letters_for-8.ensures))
 
-letters-for-requires-9 : tie.Need-letters_for-requires-9
-letters-for-requires-9 c κs = search rules
+letters_for-requires-9 : tie.Need-letters_for-requires-9
+letters_for-requires-9 c κs = search rules
 
-returns-9 : tie.Need-returns-then-pair-letters_for-9
+returns-then-pair-letters_for-9 : tie.Need-returns-then-pair-letters_for-9
 unfolding letters_of
-returns-9 c = sym (ap named (c.if-pair-letters_for-9.true ∙ c.before.letters_for-9.ensures))
+returns-then-pair-letters_for-9 c = sym (ap named (c.if-pair-letters_for-9.true ∙ c.before.letters_for-9.ensures))
 
-letters-for-requires-10 : tie.Need-letters_for-requires-10
-letters-for-requires-10 c κs = search rules
+letters_for-requires-10 : tie.Need-letters_for-requires-10
+letters_for-requires-10 c κs = search rules
 
-returns-10 : tie.Need-returns-then-pair-letters_for-10
+returns-then-pair-letters_for-10 : tie.Need-returns-then-pair-letters_for-10
 unfolding letters_of
-returns-10 c = sym (ap named (c.if-pair-letters_for-10.true ∙ c.before.letters_for-10.ensures))
+returns-then-pair-letters_for-10 c = sym (ap named (c.if-pair-letters_for-10.true ∙ c.before.letters_for-10.ensures))
 
-letters-for-requires-11 : tie.Need-letters_for-requires-11
-letters-for-requires-11 c κs = search rules
+letters_for-requires-11 : tie.Need-letters_for-requires-11
+letters_for-requires-11 c κs = search rules
 
-returns-11 : tie.Need-returns-then-pair-letters_for-11
+returns-then-pair-letters_for-11 : tie.Need-returns-then-pair-letters_for-11
 unfolding letters_of
-returns-11 c = sym (ap named (c.if-pair-letters_for-11.true ∙ c.before.letters_for-11.ensures))
+returns-then-pair-letters_for-11 c = sym (ap named (c.if-pair-letters_for-11.true ∙ c.before.letters_for-11.ensures))
 
-letters-for-requires-12 : tie.Need-letters_for-requires-12
-letters-for-requires-12 c κs = search rules
+letters_for-requires-12 : tie.Need-letters_for-requires-12
+letters_for-requires-12 c κs = search rules
 
-returns-12 : tie.Need-returns-then-pair-letters_for-12
+returns-then-pair-letters_for-12 : tie.Need-returns-then-pair-letters_for-12
 unfolding letters_of
-returns-12 c = sym (ap named (c.if-pair-letters_for-12.true ∙ c.before.letters_for-12.ensures))
+returns-then-pair-letters_for-12 c = sym (ap named (c.if-pair-letters_for-12.true ∙ c.before.letters_for-12.ensures))
 
-letters-for-requires-13 : tie.Need-letters_for-requires-13
-letters-for-requires-13 c κs = search rules
+letters_for-requires-13 : tie.Need-letters_for-requires-13
+letters_for-requires-13 c κs = search rules
 
-returns-13 : tie.Need-returns-then-pair-letters_for-13
+returns-then-pair-letters_for-13 : tie.Need-returns-then-pair-letters_for-13
 unfolding letters_of
-returns-13 c = sym (ap named (c.if-pair-letters_for-13.true ∙ c.before.letters_for-13.ensures))
+returns-then-pair-letters_for-13 c = sym (ap named (c.if-pair-letters_for-13.true ∙ c.before.letters_for-13.ensures))
 
-letters-for-requires-14 : tie.Need-letters_for-requires-14
-letters-for-requires-14 c κs = search rules
+letters_for-requires-14 : tie.Need-letters_for-requires-14
+letters_for-requires-14 c κs = search rules
 
-returns-14 : tie.Need-returns-then-pair-letters_for-14
+returns-then-pair-letters_for-14 : tie.Need-returns-then-pair-letters_for-14
 unfolding letters_of
-returns-14 c = sym (ap named (c.if-pair-letters_for-14.true ∙ c.before.letters_for-14.ensures))
+returns-then-pair-letters_for-14 c = sym (ap named (c.if-pair-letters_for-14.true ∙ c.before.letters_for-14.ensures))
 
-returns-15 : tie.Need-returns-then-pair-eq-SET_LETTERS
+returns-then-pair-eq-SET_LETTERS : tie.Need-returns-then-pair-eq-SET_LETTERS
 unfolding letters_of
-returns-15 c = sym (ap named c.if-pair-eq-SET_LETTERS.true)
+returns-then-pair-eq-SET_LETTERS c = sym (ap named c.if-pair-eq-SET_LETTERS.true)
 
 -- a test that fails is passed over
 past : (k a : ℕ) (x y z : Letters) → (k ≡ a → ⊥) → z ≡ y → z ≡ cond (eqb k a) x y
@@ -126,9 +126,9 @@ past k a x y z h e = e ∙ sym (ap (λ (t : Bool). cond t x y) (ne_eqb k a h))
 past_word : (k b a : ℕ) (x y z : Letters) → (k ≡ b → ⊥) → b ≡ a → z ≡ y → z ≡ cond (eqb k a) x y
 past_word k b a x y z h e = past k a x y z (λ p. h (p ∙ sym e))
 
-returns-16 : tie.Need-returns
+returns : tie.Need-returns
 unfolding letters_of
-returns-16 c =
+returns c =
     let e14 = c.before in
     let e13 = e14.before.before in
     let e12 = e13.before.before in
@@ -163,35 +163,35 @@ pub letters_of_spec : {M : Type 1} → statement M
 letters_of_spec =
     tie.close
     (tie.spec
-    mul-pair
-    add-pair
-    letters-for-requires
-    returns
-    letters-for-requires-2
-    returns-2
-    letters-for-requires-3
-    returns-3
-    letters-for-requires-4
-    returns-4
-    letters-for-requires-5
-    returns-5
-    letters-for-requires-6
-    returns-6
-    letters-for-requires-7
-    returns-7
-    letters-for-requires-8
-    returns-8
-    letters-for-requires-9
-    returns-9
-    letters-for-requires-10
-    returns-10
-    letters-for-requires-11
-    returns-11
-    letters-for-requires-12
-    returns-12
-    letters-for-requires-13
-    returns-13
-    letters-for-requires-14
-    returns-14
-    returns-15
-    returns-16)
+    overflow_mul-pair
+    overflow_add-pair
+    letters_for-requires
+    returns-then-pair-letters_for
+    letters_for-requires-2
+    returns-then-pair-letters_for-2
+    letters_for-requires-3
+    returns-then-pair-letters_for-3
+    letters_for-requires-4
+    returns-then-pair-letters_for-4
+    letters_for-requires-5
+    returns-then-pair-letters_for-5
+    letters_for-requires-6
+    returns-then-pair-letters_for-6
+    letters_for-requires-7
+    returns-then-pair-letters_for-7
+    letters_for-requires-8
+    returns-then-pair-letters_for-8
+    letters_for-requires-9
+    returns-then-pair-letters_for-9
+    letters_for-requires-10
+    returns-then-pair-letters_for-10
+    letters_for-requires-11
+    returns-then-pair-letters_for-11
+    letters_for-requires-12
+    returns-then-pair-letters_for-12
+    letters_for-requires-13
+    returns-then-pair-letters_for-13
+    letters_for-requires-14
+    returns-then-pair-letters_for-14
+    returns-then-pair-eq-SET_LETTERS
+    returns)

@@ -3,11 +3,11 @@ use borrow.Author.Tests.{eq-eqb, ne_eqb}
 use Rattle.commands.proofs.line.is_cr_lf.Statement.{statement}
 use Rattle.commands.proofs.line.is_cr_lf.Tie as tie
 
-returns : tie.Need-returns-then-a-eq13
-returns c = simp (eq-eqb _ _ c.if-a-eq13.true)
+returns-then-a-eq13 : tie.Need-returns-then-a-eq13
+returns-then-a-eq13 c = simp (eq-eqb _ _ c.if-a-eq13.true)
 
-returns-2 : tie.Need-returns-else-a-eq13
-returns-2 c = simp (ne_eqb _ _ c.if-a-eq13.false)
+returns-else-a-eq13 : tie.Need-returns-else-a-eq13
+returns-else-a-eq13 c = simp (ne_eqb _ _ c.if-a-eq13.false)
 
 pub is_cr_lf_spec : {M : Type 1} → statement M
-is_cr_lf_spec = tie.close (tie.spec returns returns-2)
+is_cr_lf_spec = tie.close (tie.spec returns-then-a-eq13 returns-else-a-eq13)

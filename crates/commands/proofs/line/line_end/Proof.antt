@@ -12,10 +12,10 @@ use Rattle.commands.proofs.EndLaws.{turn, past}
 use Rattle.commands.proofs.line.line_end.Statement.{statement}
 use Rattle.commands.proofs.line.line_end.Tie as tie
 
-abbrev invariant_loop : tie.invariant_loop
+abbrev invariant_loop : tie.invariant-loop-i
 invariant_loop buf i₀ i = (i ≤ length buf) × (line_end_from i (drop i buf) ≡ line_end_of buf)
 
-abbrev decreases_loop : tie.decreases_loop
+abbrev decreases_loop : tie.decreases-loop-i
 decreases_loop buf i₀ i = length buf - i
 
 -- what the turn's test tells of the whole search
@@ -31,43 +31,43 @@ module _ (c : tie.After-is_cr_lf invariant_loop decreases_loop) where
       sym c.before.before.before.before.loop-i.invariant.1
       ∙ turn S I _ _ _ c.before.before.before.loop-i-test.true c.before.before.byte_at.ensures c.before.byte_at-in-loop-i.ensures c.is_cr_lf.ensures
 
-loop-holds : tie.Need-loop-i-init invariant_loop decreases_loop
+loop-i-init : tie.Need-loop-i-init invariant_loop decreases_loop
 unfolding line_end_of
-loop-holds c = (zero-le, refl)
+loop-i-init c = (zero-le, refl)
 
-byte-at-requires : tie.Need-byte_at-requires invariant_loop decreases_loop
-byte-at-requires c κs = tt
+byte_at-requires : tie.Need-byte_at-requires invariant_loop decreases_loop
+byte_at-requires c κs = tt
 
-add-byte-at : tie.Need-overflow_add-i invariant_loop decreases_loop
-add-byte-at c = omega arith
+overflow_add-i : tie.Need-overflow_add-i invariant_loop decreases_loop
+overflow_add-i c = omega arith
 
-byte-at-requires-2 : tie.Need-byte_at-requires-in-loop-i invariant_loop decreases_loop
-byte-at-requires-2 c κs = tt
+byte_at-requires-in-loop-i : tie.Need-byte_at-requires-in-loop-i invariant_loop decreases_loop
+byte_at-requires-in-loop-i c κs = tt
 
-is-cr-lf-requires : tie.Need-is_cr_lf-requires invariant_loop decreases_loop
-is-cr-lf-requires c κs = tt
+is_cr_lf-requires : tie.Need-is_cr_lf-requires invariant_loop decreases_loop
+is_cr_lf-requires c κs = tt
 
-returns : tie.Need-returns-then-i-le-LINE_LIMIT invariant_loop decreases_loop
-returns c =
+returns-then-i-le-LINE_LIMIT : tie.Need-returns-then-i-le-LINE_LIMIT invariant_loop decreases_loop
+returns-then-i-le-LINE_LIMIT c =
     let short : I c.before.before ≤ line_limit = omega arith in
     sym (went c.before.before ∙ simp (c.before.if-is_cr_lf.true, le-leb _ _ short))
 
-returns-2 : tie.Need-returns-else-i-le-LINE_LIMIT invariant_loop decreases_loop
-returns-2 c =
+returns-else-i-le-LINE_LIMIT : tie.Need-returns-else-i-le-LINE_LIMIT invariant_loop decreases_loop
+returns-else-i-le-LINE_LIMIT c =
     let long : line_limit < I c.before.before = omega arith in
     sym (went c.before.before ∙ simp (c.before.if-is_cr_lf.true, lt-leb _ _ long))
 
-add-i : tie.Need-overflow_add-i-in-loop-i invariant_loop decreases_loop
-add-i c = omega arith
+overflow_add-i-in-loop-i : tie.Need-overflow_add-i-in-loop-i invariant_loop decreases_loop
+overflow_add-i-in-loop-i c = omega arith
 
-loop-less : tie.Need-loop-i-smaller invariant_loop decreases_loop
-loop-less c = omega arith
+loop-i-smaller : tie.Need-loop-i-smaller invariant_loop decreases_loop
+loop-i-smaller c = omega arith
 
-loop-again : tie.Need-loop-i-preserved invariant_loop decreases_loop
-loop-again c = (omega arith, sym (went c.before ∙ simp c.if-is_cr_lf.false))
+loop-i-preserved : tie.Need-loop-i-preserved invariant_loop decreases_loop
+loop-i-preserved c = (omega arith, sym (went c.before ∙ simp c.if-is_cr_lf.false))
 
-returns-3 : tie.Need-returns invariant_loop decreases_loop
-returns-3 c = sym (past _ _ c.loop-i-test.false) ∙ c.before.loop-i.invariant.1
+returns : tie.Need-returns invariant_loop decreases_loop
+returns c = sym (past _ _ c.loop-i-test.false) ∙ c.before.loop-i.invariant.1
 
 pub line_end_spec : {M : Type 1} → statement M
 line_end_spec =
@@ -75,14 +75,14 @@ line_end_spec =
     (tie.spec
     invariant_loop
     decreases_loop
-    loop-holds
-    byte-at-requires
-    add-byte-at
-    byte-at-requires-2
-    is-cr-lf-requires
-    returns
-    returns-2
-    add-i
-    loop-less
-    loop-again
-    returns-3)
+    loop-i-init
+    byte_at-requires
+    overflow_add-i
+    byte_at-requires-in-loop-i
+    is_cr_lf-requires
+    returns-then-i-le-LINE_LIMIT
+    returns-else-i-le-LINE_LIMIT
+    overflow_add-i-in-loop-i
+    loop-i-smaller
+    loop-i-preserved
+    returns)

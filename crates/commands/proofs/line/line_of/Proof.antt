@@ -9,55 +9,55 @@ use Rattle.commands.proofs.EndLaws.{within, ended}
 use Rattle.commands.proofs.line.line_of.Statement.{statement}
 use Rattle.commands.proofs.line.line_of.Tie as tie
 
-line-end-requires : tie.Need-line_end-requires
-line-end-requires c κs = search rules
+line_end-requires : tie.Need-line_end-requires
+line_end-requires c κs = search rules
 
-enum-known-n : tie.Need-enum_known-n
-enum-known-n c = search rules
+enum_known-n : tie.Need-enum_known-n
+enum_known-n c = search rules
 
 -- the bytes before the end that was found
 long : (c : tie.In-At-2) → length_at (line_end_of c.before.before.before.before.args.buf.now) ≡ c.n-1.given.0.0
 long c = ended c.before.before.before.before.args.buf.now _ _ c.before.before.line_end.ensures c.n-1.given.1
 
-slice-aggregate-result : tie.Need-slice_bounds-result-end
-slice-aggregate-result c =
+slice_bounds-result-end : tie.Need-slice_bounds-result-end
+slice_bounds-result-end c =
     sym (length-take-le _ _ (subst (λ (k : ℕ). k ≤ length c.before.before.before.before.before.before.args.buf.now) (long c.before.before) (within c.before.before.before.before.before.before.args.buf.now)))
 
 enum_told : tie.Need-enum_told-1
 enum_told c = search rules
 
-slice-aggregate-result-2 : tie.Need-slice_bounds-result-end-in-Beyond
-slice-aggregate-result-2 c = search rules
+slice_bounds-result-end-in-Beyond : tie.Need-slice_bounds-result-end-in-Beyond
+slice_bounds-result-end-in-Beyond c = search rules
 
-enum-told-2 : tie.Need-enum_told-in-Missing
-enum-told-2 c = search rules
+enum_told-in-Missing : tie.Need-enum_told-in-Missing
+enum_told-in-Missing c = search rules
 
-slice-aggregate-result-3 : tie.Need-slice_bounds-result-end-in-Missing
-slice-aggregate-result-3 c = search rules
+slice_bounds-result-end-in-Missing : tie.Need-slice_bounds-result-end-in-Missing
+slice_bounds-result-end-in-Missing c = search rules
 
-returns : tie.Need-returns-in-At
+returns-in-At : tie.Need-returns-in-At
 unfolding line_of
-returns c = (ap (λ (k : ℕ). take k c.before.before.before.before.before.before.args.buf.now) (sym (long c.before.before)), refl)
+returns-in-At c = (ap (λ (k : ℕ). take k c.before.before.before.before.before.before.args.buf.now) (sym (long c.before.before)), refl)
 
-returns-2 : tie.Need-returns-in-Beyond
+returns-in-Beyond : tie.Need-returns-in-Beyond
 unfolding line_of
-returns-2 c = (simp (sym c.before.before.before.line_end.ensures ∙ c.before.enum_told-1.given.1), refl)
+returns-in-Beyond c = (simp (sym c.before.before.before.line_end.ensures ∙ c.before.enum_told-1.given.1), refl)
 
-returns-3 : tie.Need-returns-in-Missing
+returns-in-Missing : tie.Need-returns-in-Missing
 unfolding line_of
-returns-3 c = (simp (sym c.before.before.before.line_end.ensures ∙ c.before.enum_told-in-Missing-1.given.1), refl)
+returns-in-Missing c = (simp (sym c.before.before.before.line_end.ensures ∙ c.before.enum_told-in-Missing-1.given.1), refl)
 
 pub line_of_spec : {M : Type 1} → statement M
 line_of_spec =
     tie.close
     (tie.spec
-    line-end-requires
-    enum-known-n
-    slice-aggregate-result
+    line_end-requires
+    enum_known-n
+    slice_bounds-result-end
     enum_told
-    slice-aggregate-result-2
-    enum-told-2
-    slice-aggregate-result-3
-    returns
-    returns-2
-    returns-3)
+    slice_bounds-result-end-in-Beyond
+    enum_told-in-Missing
+    slice_bounds-result-end-in-Missing
+    returns-in-At
+    returns-in-Beyond
+    returns-in-Missing)

@@ -36,12 +36,12 @@ use Rattle.controller.proofs.block.run_block.Tie as tie
 fold_more : {A B : Type 0} (f : B → A → B) (b : B) (l : List A) (i : ℕ) (d : A) → i < length l → foldl f b (take (i + 1) l) ≡ f (foldl f b (take i l)) (get_or l i d)
 fold_more f b l i d h = rw (add-one, take-suc l i d h, foldl-append)
 
-abbrev invariant_loop : tie.invariant_loop
+abbrev invariant_loop : tie.invariant-loop-i
 invariant_loop s st₀ counts contact points mode i₀ st i =
     (i ≤ length counts) × (st ≡ foldl (count_in s contact) st₀ (take i counts))
     × (idle_of st.sequence-1.stage ≡ false → st.setpoints ≡ st₀.setpoints)
 
-abbrev decreases_loop : tie.decreases_loop
+abbrev decreases_loop : tie.decreases-loop-i
 decreases_loop s st₀ counts contact points mode i₀ st i = length counts - i
 
 -- the block's number beside the block
@@ -49,62 +49,62 @@ numbered : (s : Settings) (st : State) (counts : List ℤ) (contact : Bool) (r :
     → (r ≡ block_of s st counts contact) × (block_number r.answer ≡ block_due counts)
 numbered s st counts contact r e = (e, ap (λ (b : Blocked). block_number b.answer) e ∙ block_number_lem s st counts contact)
 
-returns : tie.Need-returns-then-counts-gt-BLOCK_LIMIT invariant_loop decreases_loop
+returns-then-counts-gt-BLOCK_LIMIT : tie.Need-returns-then-counts-gt-BLOCK_LIMIT invariant_loop decreases_loop
 unfolding block_of
-returns c =
+returns-then-counts-gt-BLOCK_LIMIT c =
     let a = c.before.args in
     numbered a.s a.st a.counts.now a.contact _ (simp (lt-leb (length a.counts.now) block_limit (omega arith)))
 
-loop-holds : tie.Need-loop-i-init invariant_loop decreases_loop
-loop-holds c = (omega arith, refl, λ e. refl)
+loop-i-init : tie.Need-loop-i-init invariant_loop decreases_loop
+loop-i-init c = (omega arith, refl, λ e. refl)
 
-mul-count : tie.Need-offset_bounds-counts-i invariant_loop decreases_loop
-mul-count c = search rules
+offset_bounds-counts-i : tie.Need-offset_bounds-counts-i invariant_loop decreases_loop
+offset_bounds-counts-i c = search rules
 
-shared-slice-copy-out-count : tie.Need-bounds-counts-i invariant_loop decreases_loop
-shared-slice-copy-out-count c = search rules
+bounds-counts-i : tie.Need-bounds-counts-i invariant_loop decreases_loop
+bounds-counts-i c = search rules
 
-raw_of-requires : tie.Need-raw_of-raw-requires invariant_loop decreases_loop
-raw_of-requires c κs = search rules
+raw_of-raw-requires : tie.Need-raw_of-raw-requires invariant_loop decreases_loop
+raw_of-raw-requires c κs = search rules
 
-steadied-requires : tie.Need-steadied-steadied-requires invariant_loop decreases_loop
-steadied-requires c κs = search rules
+steadied-steadied-requires : tie.Need-steadied-steadied-requires invariant_loop decreases_loop
+steadied-steadied-requires c κs = search rules
 
-book-tick-requires : tie.Need-book_tick-st-requires invariant_loop decreases_loop
-book-tick-requires c κs = search rules
+book_tick-st-requires : tie.Need-book_tick-st-requires invariant_loop decreases_loop
+book_tick-st-requires c κs = search rules
 
-weigh-requires : tie.Need-weigh-x-requires invariant_loop decreases_loop
-weigh-requires c κs = search rules
+weigh-x-requires : tie.Need-weigh-x-requires invariant_loop decreases_loop
+weigh-x-requires c κs = search rules
 
-is-idle-requires : tie.Need-is_idle-idle-requires invariant_loop decreases_loop
-is-idle-requires c κs = search rules
+is_idle-idle-requires : tie.Need-is_idle-idle-requires invariant_loop decreases_loop
+is_idle-idle-requires c κs = search rules
 
-tracked-requires : tie.Need-tracked-st-requires invariant_loop decreases_loop
-tracked-requires c κs = search rules
+tracked-st-requires : tie.Need-tracked-st-requires invariant_loop decreases_loop
+tracked-st-requires c κs = search rules
 
-compared-requires : tie.Need-compared-v-requires invariant_loop decreases_loop
-compared-requires c κs = search rules
+compared-v-requires : tie.Need-compared-v-requires invariant_loop decreases_loop
+compared-v-requires c κs = search rules
 
-is-fit-requires : tie.Need-is_fit-fit-requires invariant_loop decreases_loop
-is-fit-requires c κs = search rules
+is_fit-fit-requires : tie.Need-is_fit-fit-requires invariant_loop decreases_loop
+is_fit-fit-requires c κs = search rules
 
-advance-requires : tie.Need-advance-a-requires invariant_loop decreases_loop
-advance-requires c κs = search rules
+advance-a-requires : tie.Need-advance-a-requires invariant_loop decreases_loop
+advance-a-requires c κs = search rules
 
-is-idle-requires-2 : tie.Need-is_idle-requires invariant_loop decreases_loop
-is-idle-requires-2 c κs = search rules
+is_idle-requires : tie.Need-is_idle-requires invariant_loop decreases_loop
+is_idle-requires c κs = search rules
 
-booked-sequence-requires : tie.Need-booked_sequence-st-requires invariant_loop decreases_loop
-booked-sequence-requires c κs = search rules
+booked_sequence-st-requires : tie.Need-booked_sequence-st-requires invariant_loop decreases_loop
+booked_sequence-st-requires c κs = search rules
 
-booked-totals-requires : tie.Need-booked_totals-st-requires invariant_loop decreases_loop
-booked-totals-requires c κs = search rules
+booked_totals-st-requires : tie.Need-booked_totals-st-requires invariant_loop decreases_loop
+booked_totals-st-requires c κs = search rules
 
-latest-requires : tie.Need-latest-st-requires invariant_loop decreases_loop
-latest-requires c κs = search rules
+latest-st-requires : tie.Need-latest-st-requires invariant_loop decreases_loop
+latest-st-requires c κs = search rules
 
-none-waiting-requires : tie.Need-none_waiting-st-requires invariant_loop decreases_loop
-none-waiting-requires c κs = search rules
+none_waiting-st-requires : tie.Need-none_waiting-st-requires invariant_loop decreases_loop
+none_waiting-st-requires c κs = search rules
 
 -- the loop's state and place, before this count
 abbrev at : tie.After-tracked-st invariant_loop decreases_loop → tie.At-loop-i invariant_loop decreases_loop
@@ -190,14 +190,14 @@ counted : (j : tie.Joined-not-idle invariant_loop decreases_loop) →
 unfolding count_in
 counted j = stepped j ∙ parts_next (parts j.before)
 
-add-i : tie.Need-overflow_add-i invariant_loop decreases_loop
-add-i c = record { fits = omega (arith, within c.before, few c.before) }
+overflow_add-i : tie.Need-overflow_add-i invariant_loop decreases_loop
+overflow_add-i c = record { fits = omega (arith, within c.before, few c.before) }
 
-loop-less : tie.Need-loop-i-smaller invariant_loop decreases_loop
-loop-less c = omega (arith, within c.before)
+loop-i-smaller : tie.Need-loop-i-smaller invariant_loop decreases_loop
+loop-i-smaller c = omega (arith, within c.before)
 
-loop-again : tie.Need-loop-i-preserved invariant_loop decreases_loop
-loop-again c =
+loop-i-preserved : tie.Need-loop-i-preserved invariant_loop decreases_loop
+loop-i-preserved c =
     let t = c.before in
     let a = (start t).args in
     let h = within t in (
@@ -211,9 +211,9 @@ loop-again c =
           ap (λ (st : State). st.setpoints) same ∙ runs.1 ∙ (at t).loop-i.invariant.2 runs.0,
     )
 
-returns-2 : tie.Need-returns invariant_loop decreases_loop
+returns : tie.Need-returns invariant_loop decreases_loop
 unfolding block_of
-returns-2 c =
+returns c =
     let l = c.before in
     let a = l.before.before.before.before.args in
     let counts = a.counts.now in
@@ -227,25 +227,25 @@ run_block_spec =
     (tie.spec
     invariant_loop
     decreases_loop
-    returns
-    loop-holds
-    mul-count
-    shared-slice-copy-out-count
-    raw_of-requires
-    steadied-requires
-    book-tick-requires
-    weigh-requires
-    is-idle-requires
-    tracked-requires
-    compared-requires
-    is-fit-requires
-    advance-requires
-    is-idle-requires-2
-    booked-sequence-requires
-    booked-totals-requires
-    latest-requires
-    none-waiting-requires
-    add-i
-    loop-less
-    loop-again
-    returns-2)
+    returns-then-counts-gt-BLOCK_LIMIT
+    loop-i-init
+    offset_bounds-counts-i
+    bounds-counts-i
+    raw_of-raw-requires
+    steadied-steadied-requires
+    book_tick-st-requires
+    weigh-x-requires
+    is_idle-idle-requires
+    tracked-st-requires
+    compared-v-requires
+    is_fit-fit-requires
+    advance-a-requires
+    is_idle-requires
+    booked_sequence-st-requires
+    booked_totals-st-requires
+    latest-st-requires
+    none_waiting-st-requires
+    overflow_add-i
+    loop-i-smaller
+    loop-i-preserved
+    returns)

@@ -4,20 +4,20 @@ use Rattle.outline.specs.Tick.{open_state}
 use Rattle.controller.proofs.opening.open_state.Statement.{statement}
 use Rattle.controller.proofs.opening.open_state.Tie as tie
 
-open-book-requires : tie.Need-open_book-requires
-open-book-requires c κs = search rules
+open_book-requires : tie.Need-open_book-requires
+open_book-requires c κs = search rules
 
-open-setpoints-requires : tie.Need-open_setpoints-requires
-open-setpoints-requires c κs = search rules
+open_setpoints-requires : tie.Need-open_setpoints-requires
+open_setpoints-requires c κs = search rules
 
-none-waiting-requires : tie.Need-none_waiting-requires
-none-waiting-requires c κs = search rules
+none_waiting-requires : tie.Need-none_waiting-requires
+none_waiting-requires c κs = search rules
 
-open-sequence-requires : tie.Need-open_sequence-requires
-open-sequence-requires c κs = search rules
+open_sequence-requires : tie.Need-open_sequence-requires
+open_sequence-requires c κs = search rules
 
-clear-totals-requires : tie.Need-clear_totals-requires
-clear-totals-requires c κs = search rules
+clear_totals-requires : tie.Need-clear_totals-requires
+clear_totals-requires c κs = search rules
 
 returns : tie.Need-returns
 unfolding open_state
@@ -34,9 +34,9 @@ pub open_state_spec : {M : Type 1} → statement M
 open_state_spec =
     tie.close
     (tie.spec
-    open-book-requires
-    open-setpoints-requires
-    none-waiting-requires
-    open-sequence-requires
-    clear-totals-requires
+    open_book-requires
+    open_setpoints-requires
+    none_waiting-requires
+    open_sequence-requires
+    clear_totals-requires
     returns)

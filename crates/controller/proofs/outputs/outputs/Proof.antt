@@ -8,26 +8,26 @@ use Rattle.outline.specs.Tick.{outputs_of}
 use Rattle.controller.proofs.outputs.outputs.Statement.{statement}
 use Rattle.controller.proofs.outputs.outputs.Tie as tie
 
-displayed-requires : tie.Need-displayed-shown-requires
-displayed-requires c κs = search rules
+displayed-shown-requires : tie.Need-displayed-shown-requires
+displayed-shown-requires c κs = search rules
 
-is-fit-requires : tie.Need-is_fit-fit-requires
-is-fit-requires c κs = search rules
+is_fit-fit-requires : tie.Need-is_fit-fit-requires
+is_fit-fit-requires c κs = search rules
 
 reading-requires : tie.Need-reading-requires
 reading-requires c κs = search rules
 
-open-gates-requires : tie.Need-open_gates-requires
-open-gates-requires c κs = search rules
+open_gates-requires : tie.Need-open_gates-requires
+open_gates-requires c κs = search rules
 
-is-near-requires : tie.Need-is_near-requires
-is-near-requires c κs = search rules
+is_near-requires : tie.Need-is_near-requires
+is_near-requires c κs = search rules
 
-is-full-requires : tie.Need-is_full-requires
-is-full-requires c κs = search rules
+is_full-requires : tie.Need-is_full-requires
+is_full-requires c κs = search rules
 
-analog-value-requires : tie.Need-analog_value-requires
-analog-value-requires c κs = search rules
+analog_value-requires : tie.Need-analog_value-requires
+analog_value-requires c κs = search rules
 
 returns : tie.Need-returns
 unfolding outputs_of
@@ -53,11 +53,11 @@ pub outputs_spec : {M : Type 1} → statement M
 outputs_spec =
     tie.close
     (tie.spec
-    displayed-requires
-    is-fit-requires
+    displayed-shown-requires
+    is_fit-fit-requires
     reading-requires
-    open-gates-requires
-    is-near-requires
-    is-full-requires
-    analog-value-requires
+    open_gates-requires
+    is_near-requires
+    is_full-requires
+    analog_value-requires
     returns)

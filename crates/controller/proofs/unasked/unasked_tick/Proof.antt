@@ -19,47 +19,47 @@ use Rattle.outline.specs.Steps.{parts_of, Parts, parts_tick, step_idle, step-on,
 use Rattle.controller.proofs.unasked.unasked_tick.Statement.{statement}
 use Rattle.controller.proofs.unasked.unasked_tick.Tie as tie
 
-raw_of-requires : tie.Need-raw_of-raw-requires
-raw_of-requires c κs = search rules
+raw_of-raw-requires : tie.Need-raw_of-raw-requires
+raw_of-raw-requires c κs = search rules
 
-steadied-requires : tie.Need-steadied-steadied-requires
-steadied-requires c κs = search rules
+steadied-steadied-requires : tie.Need-steadied-steadied-requires
+steadied-steadied-requires c κs = search rules
 
-book-tick-requires : tie.Need-book_tick-st-requires
-book-tick-requires c κs = search rules
+book_tick-st-requires : tie.Need-book_tick-st-requires
+book_tick-st-requires c κs = search rules
 
-weigh-requires : tie.Need-weigh-x-requires
-weigh-requires c κs = search rules
+weigh-x-requires : tie.Need-weigh-x-requires
+weigh-x-requires c κs = search rules
 
-is-idle-requires : tie.Need-is_idle-idle-requires
-is-idle-requires c κs = search rules
+is_idle-idle-requires : tie.Need-is_idle-idle-requires
+is_idle-idle-requires c κs = search rules
 
-tracked-requires : tie.Need-tracked-st-requires
-tracked-requires c κs = search rules
+tracked-st-requires : tie.Need-tracked-st-requires
+tracked-st-requires c κs = search rules
 
-compared-requires : tie.Need-compared-v-requires
-compared-requires c κs = search rules
+compared-v-requires : tie.Need-compared-v-requires
+compared-v-requires c κs = search rules
 
-is-fit-requires : tie.Need-is_fit-fit-requires
-is-fit-requires c κs = search rules
+is_fit-fit-requires : tie.Need-is_fit-fit-requires
+is_fit-fit-requires c κs = search rules
 
-advance-requires : tie.Need-advance-a-requires
-advance-requires c κs = search rules
+advance-a-requires : tie.Need-advance-a-requires
+advance-a-requires c κs = search rules
 
-is-idle-requires-2 : tie.Need-is_idle-requires
-is-idle-requires-2 c κs = search rules
+is_idle-requires : tie.Need-is_idle-requires
+is_idle-requires c κs = search rules
 
-booked-sequence-requires : tie.Need-booked_sequence-st-requires
-booked-sequence-requires c κs = search rules
+booked_sequence-st-requires : tie.Need-booked_sequence-st-requires
+booked_sequence-st-requires c κs = search rules
 
-booked-totals-requires : tie.Need-booked_totals-st-requires
-booked-totals-requires c κs = search rules
+booked_totals-st-requires : tie.Need-booked_totals-st-requires
+booked_totals-st-requires c κs = search rules
 
-latest-requires : tie.Need-latest-st-requires
-latest-requires c κs = search rules
+latest-st-requires : tie.Need-latest-st-requires
+latest-st-requires c κs = search rules
 
-none-waiting-requires : tie.Need-none_waiting-st-requires
-none-waiting-requires c κs = search rules
+none_waiting-st-requires : tie.Need-none_waiting-st-requires
+none_waiting-st-requires c κs = search rules
 
 outputs-requires : tie.Need-outputs-requires
 outputs-requires c κs = search rules
@@ -135,19 +135,19 @@ pub unasked_tick_spec : {M : Type 1} → statement M
 unasked_tick_spec =
     tie.close
     (tie.spec
-    raw_of-requires
-    steadied-requires
-    book-tick-requires
-    weigh-requires
-    is-idle-requires
-    tracked-requires
-    compared-requires
-    is-fit-requires
-    advance-requires
-    is-idle-requires-2
-    booked-sequence-requires
-    booked-totals-requires
-    latest-requires
-    none-waiting-requires
+    raw_of-raw-requires
+    steadied-steadied-requires
+    book_tick-st-requires
+    weigh-x-requires
+    is_idle-idle-requires
+    tracked-st-requires
+    compared-v-requires
+    is_fit-fit-requires
+    advance-a-requires
+    is_idle-requires
+    booked_sequence-st-requires
+    booked_totals-st-requires
+    latest-st-requires
+    none_waiting-st-requires
     outputs-requires
     returns)

@@ -9,88 +9,88 @@ use Rattle.images.proofs.Buffers.{of_length, of_other}
 use Rattle.images.proofs.given.given_at.Statement.{statement}
 use Rattle.images.proofs.given.given_at.Tie as tie
 
-returns : tie.Need-returns-then-s-ne-GIVEN_LENGTH
+returns-then-s-ne-GIVEN_LENGTH : tie.Need-returns-then-s-ne-GIVEN_LENGTH
 unfolding given_at get_all be_at signed
-returns c = ap given_at (sym (of_other given_length _ c.if-s-ne-GIVEN_LENGTH.true))
+returns-then-s-ne-GIVEN_LENGTH c = ap given_at (sym (of_other given_length _ c.if-s-ne-GIVEN_LENGTH.true))
 
-i32-at-requires : tie.Need-i32_at-zero-requires
-i32-at-requires c κs = search rules
+i32_at-zero-requires : tie.Need-i32_at-zero-requires
+i32_at-zero-requires c κs = search rules
 
-i32-at-requires-2 : tie.Need-i32_at-span-requires
-i32-at-requires-2 c κs = search rules
+i32_at-span-requires : tie.Need-i32_at-span-requires
+i32_at-span-requires c κs = search rules
 
-i32-at-requires-3 : tie.Need-i32_at-capacity-requires
-i32-at-requires-3 c κs = search rules
+i32_at-capacity-requires : tie.Need-i32_at-capacity-requires
+i32_at-capacity-requires c κs = search rules
 
-i32-at-requires-4 : tie.Need-i32_at-weight-requires
-i32-at-requires-4 c κs = search rules
+i32_at-weight-requires : tie.Need-i32_at-weight-requires
+i32_at-weight-requires c κs = search rules
 
-i32-at-requires-5 : tie.Need-i32_at-division-requires
-i32-at-requires-5 c κs = search rules
+i32_at-division-requires : tie.Need-i32_at-division-requires
+i32_at-division-requires c κs = search rules
 
-i32-at-requires-6 : tie.Need-i32_at-zeroing-requires
-i32-at-requires-6 c κs = search rules
+i32_at-zeroing-requires : tie.Need-i32_at-zeroing-requires
+i32_at-zeroing-requires c κs = search rules
 
-i32-at-requires-7 : tie.Need-i32_at-tracktime-requires
-i32-at-requires-7 c κs = search rules
+i32_at-tracktime-requires : tie.Need-i32_at-tracktime-requires
+i32_at-tracktime-requires c κs = search rules
 
-i32-at-requires-8 : tie.Need-i32_at-trackwidth-requires
-i32-at-requires-8 c κs = search rules
+i32_at-trackwidth-requires : tie.Need-i32_at-trackwidth-requires
+i32_at-trackwidth-requires c κs = search rules
 
-i32-at-requires-9 : tie.Need-i32_at-allowance-requires
-i32-at-requires-9 c κs = search rules
+i32_at-allowance-requires : tie.Need-i32_at-allowance-requires
+i32_at-allowance-requires c κs = search rules
 
-i32-at-requires-10 : tie.Need-i32_at-stabletime-requires
-i32-at-requires-10 c κs = search rules
+i32_at-stabletime-requires : tie.Need-i32_at-stabletime-requires
+i32_at-stabletime-requires c κs = search rules
 
-i32-at-requires-11 : tie.Need-i32_at-stablewidth-requires
-i32-at-requires-11 c κs = search rules
+i32_at-stablewidth-requires : tie.Need-i32_at-stablewidth-requires
+i32_at-stablewidth-requires c κs = search rules
 
-i32-at-requires-12 : tie.Need-i32_at-mode-requires
-i32-at-requires-12 c κs = search rules
+i32_at-mode-requires : tie.Need-i32_at-mode-requires
+i32_at-mode-requires c κs = search rules
 
-i32-at-requires-13 : tie.Need-i32_at-start-requires
-i32-at-requires-13 c κs = search rules
+i32_at-start-requires : tie.Need-i32_at-start-requires
+i32_at-start-requires c κs = search rules
 
-i32-at-requires-14 : tie.Need-i32_at-large-requires
-i32-at-requires-14 c κs = search rules
+i32_at-large-requires : tie.Need-i32_at-large-requires
+i32_at-large-requires c κs = search rules
 
-i32-at-requires-15 : tie.Need-i32_at-medium-requires
-i32-at-requires-15 c κs = search rules
+i32_at-medium-requires : tie.Need-i32_at-medium-requires
+i32_at-medium-requires c κs = search rules
 
-i32-at-requires-16 : tie.Need-i32_at-small-requires
-i32-at-requires-16 c κs = search rules
+i32_at-small-requires : tie.Need-i32_at-small-requires
+i32_at-small-requires c κs = search rules
 
-i32-at-requires-17 : tie.Need-i32_at-judge-requires
-i32-at-requires-17 c κs = search rules
+i32_at-judge-requires : tie.Need-i32_at-judge-requires
+i32_at-judge-requires c κs = search rules
 
-i32-at-requires-18 : tie.Need-i32_at-flow-requires
-i32-at-requires-18 c κs = search rules
+i32_at-flow-requires : tie.Need-i32_at-flow-requires
+i32_at-flow-requires c κs = search rules
 
-i32-at-requires-19 : tie.Need-i32_at-address-requires
-i32-at-requires-19 c κs = search rules
+i32_at-address-requires : tie.Need-i32_at-address-requires
+i32_at-address-requires c κs = search rules
 
-i32-at-requires-20 : tie.Need-i32_at-board-requires
-i32-at-requires-20 c κs = search rules
+i32_at-board-requires : tie.Need-i32_at-board-requires
+i32_at-board-requires c κs = search rules
 
-i32-at-requires-21 : tie.Need-i32_at-low-requires
-i32-at-requires-21 c κs = search rules
+i32_at-low-requires : tie.Need-i32_at-low-requires
+i32_at-low-requires c κs = search rules
 
-i32-at-requires-22 : tie.Need-i32_at-high-requires
-i32-at-requires-22 c κs = search rules
+i32_at-high-requires : tie.Need-i32_at-high-requires
+i32_at-high-requires c κs = search rules
 
-i32-at-requires-23 : tie.Need-i32_at-dischargestart-requires
-i32-at-requires-23 c κs = search rules
+i32_at-dischargestart-requires : tie.Need-i32_at-dischargestart-requires
+i32_at-dischargestart-requires c κs = search rules
 
-i32-at-requires-24 : tie.Need-i32_at-dischargeend-requires
-i32-at-requires-24 c κs = search rules
+i32_at-dischargeend-requires : tie.Need-i32_at-dischargeend-requires
+i32_at-dischargeend-requires c κs = search rules
 
-i32-at-requires-25 : tie.Need-i32_at-dischargelimit-requires
-i32-at-requires-25 c κs = search rules
+i32_at-dischargelimit-requires : tie.Need-i32_at-dischargelimit-requires
+i32_at-dischargelimit-requires c κs = search rules
 
-returns-2 : tie.Need-returns
+returns : tie.Need-returns
 unfolding given_at get_all
-returns-2 c =
+returns c =
     (λ i. record {
       zero = ((got {w = w32} _ c.before.before.before.before.before.before.before.before.before.before.before.before.before.before.before.before.before.before.before.before.before.before.before.before.i32_at-zero.type-inv).read ∙ c.before.before.before.before.before.before.before.before.before.before.before.before.before.before.before.before.before.before.before.before.before.before.before.before.i32_at-zero.ensures) i;
       span = ((got {w = w32} _ c.before.before.before.before.before.before.before.before.before.before.before.before.before.before.before.before.before.before.before.before.before.before.before.i32_at-span.type-inv).read ∙ c.before.before.before.before.before.before.before.before.before.before.before.before.before.before.before.before.before.before.before.before.before.before.before.i32_at-span.ensures) i;
@@ -124,30 +124,30 @@ pub given_at_spec : {M : Type 1} → statement M
 given_at_spec =
     tie.close
     (tie.spec
-    returns
-    i32-at-requires
-    i32-at-requires-2
-    i32-at-requires-3
-    i32-at-requires-4
-    i32-at-requires-5
-    i32-at-requires-6
-    i32-at-requires-7
-    i32-at-requires-8
-    i32-at-requires-9
-    i32-at-requires-10
-    i32-at-requires-11
-    i32-at-requires-12
-    i32-at-requires-13
-    i32-at-requires-14
-    i32-at-requires-15
-    i32-at-requires-16
-    i32-at-requires-17
-    i32-at-requires-18
-    i32-at-requires-19
-    i32-at-requires-20
-    i32-at-requires-21
-    i32-at-requires-22
-    i32-at-requires-23
-    i32-at-requires-24
-    i32-at-requires-25
-    returns-2)
+    returns-then-s-ne-GIVEN_LENGTH
+    i32_at-zero-requires
+    i32_at-span-requires
+    i32_at-capacity-requires
+    i32_at-weight-requires
+    i32_at-division-requires
+    i32_at-zeroing-requires
+    i32_at-tracktime-requires
+    i32_at-trackwidth-requires
+    i32_at-allowance-requires
+    i32_at-stabletime-requires
+    i32_at-stablewidth-requires
+    i32_at-mode-requires
+    i32_at-start-requires
+    i32_at-large-requires
+    i32_at-medium-requires
+    i32_at-small-requires
+    i32_at-judge-requires
+    i32_at-flow-requires
+    i32_at-address-requires
+    i32_at-board-requires
+    i32_at-low-requires
+    i32_at-high-requires
+    i32_at-dischargestart-requires
+    i32_at-dischargeend-requires
+    i32_at-dischargelimit-requires
+    returns)

@@ -14,20 +14,20 @@ same : (c : tie.After-are_zero) →
     same_bytes (given_image (given_at l)) l ≡ c.are_zero.result
 same c = sym (c.are_zero.ensures ∙ given_again c.before.before.before.args.s.now (λ i. (c.before.before.shared_slice_known-1.given i).fits) c.before.if-s-ne-GIVEN_LENGTH.false)
 
-returns : tie.Need-returns-then-s-ne-GIVEN_LENGTH
+returns-then-s-ne-GIVEN_LENGTH : tie.Need-returns-then-s-ne-GIVEN_LENGTH
 unfolding given_in
-returns c = given_length_lem _ (given_at _) c.if-s-ne-GIVEN_LENGTH.true
+returns-then-s-ne-GIVEN_LENGTH c = given_length_lem _ (given_at _) c.if-s-ne-GIVEN_LENGTH.true
 
-are-zero-requires : tie.Need-are_zero-requires
-are-zero-requires c κs = search rules
+are_zero-requires : tie.Need-are_zero-requires
+are_zero-requires c κs = search rules
 
-returns-2 : tie.Need-returns-then-not-are_zero
+returns-then-not-are_zero : tie.Need-returns-then-not-are_zero
 unfolding given_in
-returns-2 c = given_bytes _ (given_at _) c.before.before.if-s-ne-GIVEN_LENGTH.false (same c.before ∙ not-true _ c.if-not-are_zero.true)
+returns-then-not-are_zero c = given_bytes _ (given_at _) c.before.before.if-s-ne-GIVEN_LENGTH.false (same c.before ∙ not-true _ c.if-not-are_zero.true)
 
-returns-3 : tie.Need-returns
+returns : tie.Need-returns
 unfolding given_in
-returns-3 c = given_good _ (given_at _) c.before.before.if-s-ne-GIVEN_LENGTH.false (same c.before ∙ not-false _ c.if-not-are_zero.false)
+returns c = given_good _ (given_at _) c.before.before.if-s-ne-GIVEN_LENGTH.false (same c.before ∙ not-false _ c.if-not-are_zero.false)
 
 pub given_refusal_spec : {M : Type 1} → statement M
-given_refusal_spec = tie.close (tie.spec returns are-zero-requires returns-2 returns-3)
+given_refusal_spec = tie.close (tie.spec returns-then-s-ne-GIVEN_LENGTH are_zero-requires returns-then-not-are_zero returns)

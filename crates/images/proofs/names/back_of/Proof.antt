@@ -4,13 +4,13 @@ use Rattle.images.specs.StateImage.{back_of}
 use Rattle.images.proofs.names.back_of.Statement.{statement}
 use Rattle.images.proofs.names.back_of.Tie as tie
 
-returns : tie.Need-returns-then-n-eq1
+returns-then-n-eq1 : tie.Need-returns-then-n-eq1
 unfolding back_of
-returns c = simp (eq-eqb _ _ c.if-n-eq1.true)
+returns-then-n-eq1 c = simp (eq-eqb _ _ c.if-n-eq1.true)
 
-returns-2 : tie.Need-returns
+returns : tie.Need-returns
 unfolding back_of
-returns-2 c = simp (ne_eqb _ _ c.if-n-eq1.false)
+returns c = simp (ne_eqb _ _ c.if-n-eq1.false)
 
 pub back_of_spec : {M : Type 1} → statement M
-back_of_spec = tie.close (tie.spec returns returns-2)
+back_of_spec = tie.close (tie.spec returns-then-n-eq1 returns)

@@ -7,16 +7,16 @@ use Rattle.images.proofs.names.back_weight.Tie as tie
 enum_told : tie.Need-enum_told-1
 enum_told c = search rules
 
-enum-known-back : tie.Need-enum_known-back
-enum-known-back c = search rules
+enum_known-back : tie.Need-enum_known-back
+enum_known-back c = search rules
 
-returns : tie.Need-returns-in-Nothing
+returns-in-Nothing : tie.Need-returns-in-Nothing
 unfolding back_weight
-returns c = simp c.enum_told-1.given.1
+returns-in-Nothing c = simp c.enum_told-1.given.1
 
-returns-2 : tie.Need-returns-in-Weight
+returns-in-Weight : tie.Need-returns-in-Weight
 unfolding back_weight
-returns-2 c = simp c.before.back-1.given.1
+returns-in-Weight c = simp c.before.back-1.given.1
 
 pub back_weight_spec : {M : Type 1} → statement M
-back_weight_spec = tie.close (tie.spec enum_told enum-known-back returns returns-2)
+back_weight_spec = tie.close (tie.spec enum_told enum_known-back returns-in-Nothing returns-in-Weight)

@@ -7,16 +7,16 @@ use Rattle.images.proofs.names.display_number.Tie as tie
 enum_told : tie.Need-enum_told-1
 enum_told c = search rules
 
-enum-told-2 : tie.Need-enum_told-in-Net
-enum-told-2 c = search rules
+enum_told-in-Net : tie.Need-enum_told-in-Net
+enum_told-in-Net c = search rules
 
-returns : tie.Need-returns-in-Gross
+returns-in-Gross : tie.Need-returns-in-Gross
 unfolding display_number
-returns c = simp c.enum_told-1.given.1
+returns-in-Gross c = simp c.enum_told-1.given.1
 
-returns-2 : tie.Need-returns-in-Net
+returns-in-Net : tie.Need-returns-in-Net
 unfolding display_number
-returns-2 c = simp c.enum_told-in-Net-1.given.1
+returns-in-Net c = simp c.enum_told-in-Net-1.given.1
 
 pub display_number_spec : {M : Type 1} → statement M
-display_number_spec = tie.close (tie.spec enum_told enum-told-2 returns returns-2)
+display_number_spec = tie.close (tie.spec enum_told enum_told-in-Net returns-in-Gross returns-in-Net)

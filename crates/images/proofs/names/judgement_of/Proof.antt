@@ -4,21 +4,21 @@ use Rattle.images.specs.StateImage.{judgement_of}
 use Rattle.images.proofs.names.judgement_of.Statement.{statement}
 use Rattle.images.proofs.names.judgement_of.Tie as tie
 
-returns : tie.Need-returns-in-1
+returns-in-1 : tie.Need-returns-in-1
 unfolding judgement_of
-returns c = simp c.in_default.keys1
+returns-in-1 c = simp c.in_default.keys1
 
-returns-2 : tie.Need-returns-in-2
+returns-in-2 : tie.Need-returns-in-2
 unfolding judgement_of
-returns-2 c = simp c.in_default.keys2
+returns-in-2 c = simp c.in_default.keys2
 
-returns-3 : tie.Need-returns-in-3
+returns-in-3 : tie.Need-returns-in-3
 unfolding judgement_of
-returns-3 c = simp c.in_default.keys3
+returns-in-3 c = simp c.in_default.keys3
 
-returns-4 : tie.Need-returns-in_default
+returns-in_default : tie.Need-returns-in_default
 unfolding judgement_of
-returns-4 c = simp (ne_eqb _ _ c.in_default.rest.1, ne_eqb _ _ c.in_default.rest.0.1, ne_eqb _ _ c.in_default.rest.0.0.1)
+returns-in_default c = simp (ne_eqb _ _ c.in_default.rest.1, ne_eqb _ _ c.in_default.rest.0.1, ne_eqb _ _ c.in_default.rest.0.0.1)
 
 pub judgement_of_spec : {M : Type 1} → statement M
-judgement_of_spec = tie.close (tie.spec returns returns-2 returns-3 returns-4)
+judgement_of_spec = tie.close (tie.spec returns-in-1 returns-in-2 returns-in-3 returns-in_default)

@@ -11,37 +11,37 @@ use Rattle.images.proofs.Buffers.{of_long, of_short}
 use Rattle.images.proofs.parts.book_at.Statement.{statement}
 use Rattle.images.proofs.parts.book_at.Tie as tie
 
-returns : tie.Need-returns-then-s-lt-EARLIER_LENGTH
+returns-then-s-lt-EARLIER_LENGTH : tie.Need-returns-then-s-lt-EARLIER_LENGTH
 unfolding state_at get_all be_at signed flag_of
-returns c = ap (λ (b : List ℕ). (state_at b).book) (sym (of_short _ c.if-s-lt-EARLIER_LENGTH.true))
+returns-then-s-lt-EARLIER_LENGTH c = ap (λ (b : List ℕ). (state_at b).book) (sym (of_short _ c.if-s-lt-EARLIER_LENGTH.true))
 
-i32-at-requires : tie.Need-i32_at-opening-requires
-i32-at-requires c κs = search rules
+i32_at-opening-requires : tie.Need-i32_at-opening-requires
+i32_at-opening-requires c κs = search rules
 
-i32-at-requires-2 : tie.Need-i32_at-last-requires
-i32-at-requires-2 c κs = search rules
+i32_at-last-requires : tie.Need-i32_at-last-requires
+i32_at-last-requires c κs = search rules
 
-i64-at-requires : tie.Need-i64_at-refilled-requires
-i64-at-requires c κs = search rules
+i64_at-refilled-requires : tie.Need-i64_at-refilled-requires
+i64_at-refilled-requires c κs = search rules
 
-i64-at-requires-2 : tie.Need-i64_at-used-requires
-i64-at-requires-2 c κs = search rules
+i64_at-used-requires : tie.Need-i64_at-used-requires
+i64_at-used-requires c κs = search rules
 
-i64-at-requires-3 : tie.Need-i64_at-unbooked-requires
-i64-at-requires-3 c κs = search rules
+i64_at-unbooked-requires : tie.Need-i64_at-unbooked-requires
+i64_at-unbooked-requires c κs = search rules
 
-u32-at-requires : tie.Need-u32_at-ticks-requires
-u32-at-requires c κs = search rules
+u32_at-ticks-requires : tie.Need-u32_at-ticks-requires
+u32_at-ticks-requires c κs = search rules
 
-flag-at-requires : tie.Need-flag_at-begun-requires
-flag-at-requires c κs = search rules
+flag_at-begun-requires : tie.Need-flag_at-begun-requires
+flag_at-begun-requires c κs = search rules
 
-flag-at-requires-2 : tie.Need-flag_at-contact-requires
-flag-at-requires-2 c κs = search rules
+flag_at-contact-requires : tie.Need-flag_at-contact-requires
+flag_at-contact-requires c κs = search rules
 
-returns-2 : tie.Need-returns
+returns : tie.Need-returns
 unfolding state_at get_all
-returns-2 c =
+returns c =
     (λ i. record {
       opening = ((got {w = w32} _ c.before.before.before.before.before.before.before.i32_at-opening.type-inv).read ∙ c.before.before.before.before.before.before.before.i32_at-opening.ensures) i;
       last = ((got {w = w32} _ c.before.before.before.before.before.before.i32_at-last.type-inv).read ∙ c.before.before.before.before.before.before.i32_at-last.ensures) i;
@@ -58,13 +58,13 @@ pub book_at_spec : {M : Type 1} → statement M
 book_at_spec =
     tie.close
     (tie.spec
-    returns
-    i32-at-requires
-    i32-at-requires-2
-    i64-at-requires
-    i64-at-requires-2
-    i64-at-requires-3
-    u32-at-requires
-    flag-at-requires
-    flag-at-requires-2
-    returns-2)
+    returns-then-s-lt-EARLIER_LENGTH
+    i32_at-opening-requires
+    i32_at-last-requires
+    i64_at-refilled-requires
+    i64_at-used-requires
+    i64_at-unbooked-requires
+    u32_at-ticks-requires
+    flag_at-begun-requires
+    flag_at-contact-requires
+    returns)

@@ -10,39 +10,39 @@ use Rattle.images.proofs.InPlace.{turns_waiting, holds_length}
 use Rattle.images.proofs.parts.clear_waiting.Statement.{statement}
 use Rattle.images.proofs.parts.clear_waiting.Tie as tie
 
-returns : tie.Need-returns-then-s-ne-STATE_LENGTH
-returns c = ((λ st h. absurd (c.if-s-ne-STATE_LENGTH.true (holds_length h))), sym (put_nowhere _ _ _ c.if-s-ne-STATE_LENGTH.true))
+returns-then-s-ne-STATE_LENGTH : tie.Need-returns-then-s-ne-STATE_LENGTH
+returns-then-s-ne-STATE_LENGTH c = ((λ st h. absurd (c.if-s-ne-STATE_LENGTH.true (holds_length h))), sym (put_nowhere _ _ _ c.if-s-ne-STATE_LENGTH.true))
 
-put-u8-requires : tie.Need-put_u8-requires
-put-u8-requires c κs = search rules
+put_u8-requires : tie.Need-put_u8-requires
+put_u8-requires c κs = search rules
 
-put-u32-requires : tie.Need-put_u32-requires
-put-u32-requires c κs = search rules
+put_u32-requires : tie.Need-put_u32-requires
+put_u32-requires c κs = search rules
 
-put-u32-requires-2 : tie.Need-put_u32-requires-2
-put-u32-requires-2 c κs = search rules
+put_u32-requires-2 : tie.Need-put_u32-requires-2
+put_u32-requires-2 c κs = search rules
 
-put-u32-requires-3 : tie.Need-put_u32-requires-3
-put-u32-requires-3 c κs = search rules
+put_u32-requires-3 : tie.Need-put_u32-requires-3
+put_u32-requires-3 c κs = search rules
 
-put-u32-requires-4 : tie.Need-put_u32-requires-4
-put-u32-requires-4 c κs = search rules
+put_u32-requires-4 : tie.Need-put_u32-requires-4
+put_u32-requires-4 c κs = search rules
 
-put-u32-requires-5 : tie.Need-put_u32-requires-5
-put-u32-requires-5 c κs = search rules
+put_u32-requires-5 : tie.Need-put_u32-requires-5
+put_u32-requires-5 c κs = search rules
 
-put-u32-requires-6 : tie.Need-put_u32-requires-6
-put-u32-requires-6 c κs = search rules
+put_u32-requires-6 : tie.Need-put_u32-requires-6
+put_u32-requires-6 c κs = search rules
 
-put-u32-requires-7 : tie.Need-put_u32-requires-7
-put-u32-requires-7 c κs = search rules
+put_u32-requires-7 : tie.Need-put_u32-requires-7
+put_u32-requires-7 c κs = search rules
 
-same_length : tie.Need-shape_of-s
-same_length c = search rules
+shape_of-s : tie.Need-shape_of-s
+shape_of-s c = search rules
 
-returns-2 : tie.Need-returns
+returns : tie.Need-returns
 unfolding put_all write_tag write_points
-returns-2 c =
+returns c =
     let e0 = c.before.before.before.before.before.before.before.before.before.before.before.before.before.before.before.before.before.before.before.before.before.before.before.before.before.before.before.before.before.before.put_u8.ensures in
     let e1 = c.before.before.before.before.before.before.before.before.before.before.before.before.before.before.before.before.before.before.before.before.before.before.before.before.before.before.put_u32.ensures ∙ (λ i. put_be 4 0 (e0 i) 260) in
     let e2 = c.before.before.before.before.before.before.before.before.before.before.before.before.before.before.before.before.before.before.before.before.before.before.put_u32-2.ensures ∙ (λ i. put_be 4 0 (e1 i) 264) in
@@ -57,14 +57,14 @@ pub clear_waiting_spec : {M : Type 1} → statement M
 clear_waiting_spec =
     tie.close
     (tie.spec
-    returns
-    put-u8-requires
-    put-u32-requires
-    put-u32-requires-2
-    put-u32-requires-3
-    put-u32-requires-4
-    put-u32-requires-5
-    put-u32-requires-6
-    put-u32-requires-7
-    same_length
-    returns-2)
+    returns-then-s-ne-STATE_LENGTH
+    put_u8-requires
+    put_u32-requires
+    put_u32-requires-2
+    put_u32-requires-3
+    put_u32-requires-4
+    put_u32-requires-5
+    put_u32-requires-6
+    put_u32-requires-7
+    shape_of-s
+    returns)

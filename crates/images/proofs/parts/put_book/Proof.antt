@@ -18,32 +18,32 @@ use Rattle.images.proofs.parts.put_book.Tie as tie
 fields : (s : tie.Start) → HeldBook s.args.b
 fields s = record { opening = search sfits_of; last = search sfits_of; refilled = search sfits_of; used = search sfits_of; unbooked = search sfits_of; ticks = omega arith }
 
-returns : tie.Need-returns-then-s-ne-STATE_LENGTH
-returns c = ((λ st h. absurd (c.if-s-ne-STATE_LENGTH.true (holds_length h))), sym (put_nowhere _ _ _ c.if-s-ne-STATE_LENGTH.true))
+returns-then-s-ne-STATE_LENGTH : tie.Need-returns-then-s-ne-STATE_LENGTH
+returns-then-s-ne-STATE_LENGTH c = ((λ st h. absurd (c.if-s-ne-STATE_LENGTH.true (holds_length h))), sym (put_nowhere _ _ _ c.if-s-ne-STATE_LENGTH.true))
 
-put-i32-requires : tie.Need-put_i32-requires
-put-i32-requires c κs = search rules
+put_i32-requires : tie.Need-put_i32-requires
+put_i32-requires c κs = search rules
 
-put-i32-requires-2 : tie.Need-put_i32-requires-2
-put-i32-requires-2 c κs = search rules
+put_i32-requires-2 : tie.Need-put_i32-requires-2
+put_i32-requires-2 c κs = search rules
 
-put-i64-requires : tie.Need-put_i64-requires
-put-i64-requires c κs = search rules
+put_i64-requires : tie.Need-put_i64-requires
+put_i64-requires c κs = search rules
 
-put-i64-requires-2 : tie.Need-put_i64-requires-2
-put-i64-requires-2 c κs = search rules
+put_i64-requires-2 : tie.Need-put_i64-requires-2
+put_i64-requires-2 c κs = search rules
 
-put-i64-requires-3 : tie.Need-put_i64-requires-3
-put-i64-requires-3 c κs = search rules
+put_i64-requires-3 : tie.Need-put_i64-requires-3
+put_i64-requires-3 c κs = search rules
 
-put-u32-requires : tie.Need-put_u32-requires
-put-u32-requires c κs = search rules
+put_u32-requires : tie.Need-put_u32-requires
+put_u32-requires c κs = search rules
 
-put-flag-requires : tie.Need-put_flag-requires
-put-flag-requires c κs = search rules
+put_flag-requires : tie.Need-put_flag-requires
+put_flag-requires c κs = search rules
 
-put-flag-requires-2 : tie.Need-put_flag-requires-2
-put-flag-requires-2 c κs = search rules
+put_flag-requires-2 : tie.Need-put_flag-requires-2
+put_flag-requires-2 c κs = search rules
 
 abbrev start : tie.After-slice_known-9-1 → tie.Start
 start c = c.before.before.before.before.before.before.before.before.before.before.before.before.before.before.before.before.before.before.before.before.before.before.before.before.before.before.before.before.before.before.before.before.before.before.before.before.before.before.before
@@ -63,24 +63,24 @@ written c =
     let e7 = c.before.before.before.before.before.before.put_flag.ensures ∙ (λ i. put_be 1 (flag_tag b.begun) (e6 i) 36) in
     c.before.before.put_flag-2.ensures ∙ (λ i. put_be 1 (flag_tag b.contact) (e7 i) 37)
 
-same_length : tie.Need-shape_of-s
-same_length c = ap length (written c) ∙ put_all_length book_rows (book_numbers _) _
+shape_of-s : tie.Need-shape_of-s
+shape_of-s c = ap length (written c) ∙ put_all_length book_rows (book_numbers _) _
 
-returns-2 : tie.Need-returns
-returns-2 c = (turns_book (start c).args.b (fields (start c)) _ _ (written c), written c ∙ sym (put_here _ _ _ c.before.before.before.before.before.before.before.before.before.before.before.before.before.before.before.before.before.before.before.before.before.before.before.before.before.before.before.before.before.before.before.before.before.before.before.before.before.if-s-ne-STATE_LENGTH.false))
+returns : tie.Need-returns
+returns c = (turns_book (start c).args.b (fields (start c)) _ _ (written c), written c ∙ sym (put_here _ _ _ c.before.before.before.before.before.before.before.before.before.before.before.before.before.before.before.before.before.before.before.before.before.before.before.before.before.before.before.before.before.before.before.before.before.before.before.before.before.if-s-ne-STATE_LENGTH.false))
 
 pub put_book_spec : {M : Type 1} → statement M
 put_book_spec =
     tie.close
     (tie.spec
-    returns
-    put-i32-requires
-    put-i32-requires-2
-    put-i64-requires
-    put-i64-requires-2
-    put-i64-requires-3
-    put-u32-requires
-    put-flag-requires
-    put-flag-requires-2
-    same_length
-    returns-2)
+    returns-then-s-ne-STATE_LENGTH
+    put_i32-requires
+    put_i32-requires-2
+    put_i64-requires
+    put_i64-requires-2
+    put_i64-requires-3
+    put_u32-requires
+    put_flag-requires
+    put_flag-requires-2
+    shape_of-s
+    returns)

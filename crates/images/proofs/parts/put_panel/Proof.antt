@@ -7,24 +7,24 @@ use Rattle.images.proofs.InPlace.{turns_panel, holds_length}
 use Rattle.images.proofs.parts.put_panel.Statement.{statement}
 use Rattle.images.proofs.parts.put_panel.Tie as tie
 
-returns : tie.Need-returns-then-s-ne-STATE_LENGTH
-returns c = ((λ st h. absurd (c.if-s-ne-STATE_LENGTH.true (holds_length h))), sym (put_nowhere _ _ _ c.if-s-ne-STATE_LENGTH.true))
+returns-then-s-ne-STATE_LENGTH : tie.Need-returns-then-s-ne-STATE_LENGTH
+returns-then-s-ne-STATE_LENGTH c = ((λ st h. absurd (c.if-s-ne-STATE_LENGTH.true (holds_length h))), sym (put_nowhere _ _ _ c.if-s-ne-STATE_LENGTH.true))
 
-display-number-requires : tie.Need-display_number-requires
-display-number-requires c κs = search rules
+display_number-requires : tie.Need-display_number-requires
+display_number-requires c κs = search rules
 
-put-u8-requires : tie.Need-put_u8-requires
-put-u8-requires c κs = search rules
+put_u8-requires : tie.Need-put_u8-requires
+put_u8-requires c κs = search rules
 
-same_length : tie.Need-shape_of-s
-same_length c = search rules
+shape_of-s : tie.Need-shape_of-s
+shape_of-s c = search rules
 
-returns-2 : tie.Need-returns
+returns : tie.Need-returns
 unfolding put_all
-returns-2 c =
+returns c =
     let a = c.before.before.before.before.before.before.before in
     let e = c.before.before.put_u8.ensures ∙ (λ i. put_be 1 (c.before.before.before.display_number.ensures i) a.args.s-1.now 58) in
     (turns_panel a.args.p _ _ e, e ∙ sym (put_here _ _ _ c.before.before.before.before.before.if-s-ne-STATE_LENGTH.false))
 
 pub put_panel_spec : {M : Type 1} → statement M
-put_panel_spec = tie.close (tie.spec returns display-number-requires put-u8-requires same_length returns-2)
+put_panel_spec = tie.close (tie.spec returns-then-s-ne-STATE_LENGTH display_number-requires put_u8-requires shape_of-s returns)

@@ -9,42 +9,42 @@ use Rattle.images.proofs.InPlace.{turns_sequence, holds_length}
 use Rattle.images.proofs.parts.put_sequence.Statement.{statement}
 use Rattle.images.proofs.parts.put_sequence.Tie as tie
 
-returns : tie.Need-returns-then-s-ne-STATE_LENGTH
-returns c = ((λ st h. absurd (c.if-s-ne-STATE_LENGTH.true (holds_length h))), sym (put_nowhere _ _ _ c.if-s-ne-STATE_LENGTH.true))
+returns-then-s-ne-STATE_LENGTH : tie.Need-returns-then-s-ne-STATE_LENGTH
+returns-then-s-ne-STATE_LENGTH c = ((λ st h. absurd (c.if-s-ne-STATE_LENGTH.true (holds_length h))), sym (put_nowhere _ _ _ c.if-s-ne-STATE_LENGTH.true))
 
-stage-number-requires : tie.Need-stage_number-requires
-stage-number-requires c κs = search rules
+stage_number-requires : tie.Need-stage_number-requires
+stage_number-requires c κs = search rules
 
-put-u8-requires : tie.Need-put_u8-requires
-put-u8-requires c κs = search rules
+put_u8-requires : tie.Need-put_u8-requires
+put_u8-requires c κs = search rules
 
-stage-timer-requires : tie.Need-stage_timer-requires
-stage-timer-requires c κs = search rules
+stage_timer-requires : tie.Need-stage_timer-requires
+stage_timer-requires c κs = search rules
 
-put-u16-requires : tie.Need-put_u16-requires
-put-u16-requires c κs = search rules
+put_u16-requires : tie.Need-put_u16-requires
+put_u16-requires c κs = search rules
 
-put-u16-requires-2 : tie.Need-put_u16-requires-2
-put-u16-requires-2 c κs = search rules
+put_u16-requires-2 : tie.Need-put_u16-requires-2
+put_u16-requires-2 c κs = search rules
 
-error-number-requires : tie.Need-error_number-requires
-error-number-requires c κs = search rules
+error_number-requires : tie.Need-error_number-requires
+error_number-requires c κs = search rules
 
-put-u8-requires-2 : tie.Need-put_u8-requires-2
-put-u8-requires-2 c κs = search rules
+put_u8-requires-2 : tie.Need-put_u8-requires-2
+put_u8-requires-2 c κs = search rules
 
-judgement-number-requires : tie.Need-judgement_number-requires
-judgement-number-requires c κs = search rules
+judgement_number-requires : tie.Need-judgement_number-requires
+judgement_number-requires c κs = search rules
 
-put-u8-requires-3 : tie.Need-put_u8-requires-3
-put-u8-requires-3 c κs = search rules
+put_u8-requires-3 : tie.Need-put_u8-requires-3
+put_u8-requires-3 c κs = search rules
 
-same_length : tie.Need-shape_of-s
-same_length c = search rules
+shape_of-s : tie.Need-shape_of-s
+shape_of-s c = search rules
 
-returns-2 : tie.Need-returns
+returns : tie.Need-returns
 unfolding put_all
-returns-2 c =
+returns c =
     let a = c.before.before.before.before.before.before.before.before.before.before.before.before.before.before.before.before.before.before.before.before.before.before.before.before.before.before in
     let q = a.args.q in
     let e1 = c.before.before.before.before.before.before.before.before.before.before.before.before.before.before.before.before.before.before.before.before.before.put_u8.ensures ∙ (λ i. put_be 1 (c.before.before.before.before.before.before.before.before.before.before.before.before.before.before.before.before.before.before.before.before.before.before.stage_number.ensures i) a.args.s-1.now 88) in
@@ -59,15 +59,15 @@ pub put_sequence_spec : {M : Type 1} → statement M
 put_sequence_spec =
     tie.close
     (tie.spec
-    returns
-    stage-number-requires
-    put-u8-requires
-    stage-timer-requires
-    put-u16-requires
-    put-u16-requires-2
-    error-number-requires
-    put-u8-requires-2
-    judgement-number-requires
-    put-u8-requires-3
-    same_length
-    returns-2)
+    returns-then-s-ne-STATE_LENGTH
+    stage_number-requires
+    put_u8-requires
+    stage_timer-requires
+    put_u16-requires
+    put_u16-requires-2
+    error_number-requires
+    put_u8-requires-2
+    judgement_number-requires
+    put_u8-requires-3
+    shape_of-s
+    returns)

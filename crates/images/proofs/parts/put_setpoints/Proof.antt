@@ -9,39 +9,39 @@ use Rattle.images.proofs.InPlace.{turns_setpoints, holds_length}
 use Rattle.images.proofs.parts.put_setpoints.Statement.{statement}
 use Rattle.images.proofs.parts.put_setpoints.Tie as tie
 
-returns : tie.Need-returns-then-s-ne-STATE_LENGTH
-returns c = ((λ st h. absurd (c.if-s-ne-STATE_LENGTH.true (holds_length h))), sym (put_nowhere _ _ _ c.if-s-ne-STATE_LENGTH.true))
+returns-then-s-ne-STATE_LENGTH : tie.Need-returns-then-s-ne-STATE_LENGTH
+returns-then-s-ne-STATE_LENGTH c = ((λ st h. absurd (c.if-s-ne-STATE_LENGTH.true (holds_length h))), sym (put_nowhere _ _ _ c.if-s-ne-STATE_LENGTH.true))
 
-put-u32-requires : tie.Need-put_u32-requires
-put-u32-requires c κs = search rules
+put_u32-requires : tie.Need-put_u32-requires
+put_u32-requires c κs = search rules
 
-put-u32-requires-2 : tie.Need-put_u32-requires-2
-put-u32-requires-2 c κs = search rules
+put_u32-requires-2 : tie.Need-put_u32-requires-2
+put_u32-requires-2 c κs = search rules
 
-put-u32-requires-3 : tie.Need-put_u32-requires-3
-put-u32-requires-3 c κs = search rules
+put_u32-requires-3 : tie.Need-put_u32-requires-3
+put_u32-requires-3 c κs = search rules
 
-put-u32-requires-4 : tie.Need-put_u32-requires-4
-put-u32-requires-4 c κs = search rules
+put_u32-requires-4 : tie.Need-put_u32-requires-4
+put_u32-requires-4 c κs = search rules
 
-put-u32-requires-5 : tie.Need-put_u32-requires-5
-put-u32-requires-5 c κs = search rules
+put_u32-requires-5 : tie.Need-put_u32-requires-5
+put_u32-requires-5 c κs = search rules
 
-put-u32-requires-6 : tie.Need-put_u32-requires-6
-put-u32-requires-6 c κs = search rules
+put_u32-requires-6 : tie.Need-put_u32-requires-6
+put_u32-requires-6 c κs = search rules
 
-put-u32-requires-7 : tie.Need-put_u32-requires-7
-put-u32-requires-7 c κs = search rules
+put_u32-requires-7 : tie.Need-put_u32-requires-7
+put_u32-requires-7 c κs = search rules
 
-same_length : tie.Need-shape_of-s
-same_length c = search rules
+shape_of-s : tie.Need-shape_of-s
+shape_of-s c = search rules
 
 fields : (s : tie.Start) → HeldSetpoints s.args.p
 fields s = record { target = omega arith; fall = omega arith; preliminary = omega arith; optional = omega arith; over = omega arith; under = omega arith; near = omega arith }
 
-returns-2 : tie.Need-returns
+returns : tie.Need-returns
 unfolding put_all
-returns-2 c =
+returns c =
     let a = c.before.before.before.before.before.before.before.before.before.before.before.before.before.before.before.before.before.before.before.before.before.before.before.before.before.before.before.before.before.before in
     let p = a.args.p in
     let e1 = c.before.before.before.before.before.before.before.before.before.before.before.before.before.before.before.before.before.before.before.before.before.before.before.before.before.before.put_u32.ensures in
@@ -57,13 +57,13 @@ pub put_setpoints_spec : {M : Type 1} → statement M
 put_setpoints_spec =
     tie.close
     (tie.spec
-    returns
-    put-u32-requires
-    put-u32-requires-2
-    put-u32-requires-3
-    put-u32-requires-4
-    put-u32-requires-5
-    put-u32-requires-6
-    put-u32-requires-7
-    same_length
-    returns-2)
+    returns-then-s-ne-STATE_LENGTH
+    put_u32-requires
+    put_u32-requires-2
+    put_u32-requires-3
+    put_u32-requires-4
+    put_u32-requires-5
+    put_u32-requires-6
+    put_u32-requires-7
+    shape_of-s
+    returns)

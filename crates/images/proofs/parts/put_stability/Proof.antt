@@ -9,21 +9,21 @@ use Rattle.images.proofs.InPlace.{turns_stability, holds_length}
 use Rattle.images.proofs.parts.put_stability.Statement.{statement}
 use Rattle.images.proofs.parts.put_stability.Tie as tie
 
-returns : tie.Need-returns-then-s-ne-STATE_LENGTH
-returns c = ((λ st h. absurd (c.if-s-ne-STATE_LENGTH.true (holds_length h))), sym (put_nowhere _ _ _ c.if-s-ne-STATE_LENGTH.true))
+returns-then-s-ne-STATE_LENGTH : tie.Need-returns-then-s-ne-STATE_LENGTH
+returns-then-s-ne-STATE_LENGTH c = ((λ st h. absurd (c.if-s-ne-STATE_LENGTH.true (holds_length h))), sym (put_nowhere _ _ _ c.if-s-ne-STATE_LENGTH.true))
 
-put-flag-requires : tie.Need-put_flag-requires
-put-flag-requires c κs = search rules
+put_flag-requires : tie.Need-put_flag-requires
+put_flag-requires c κs = search rules
 
-put-u16-requires : tie.Need-put_u16-requires
-put-u16-requires c κs = search rules
+put_u16-requires : tie.Need-put_u16-requires
+put_u16-requires c κs = search rules
 
-same_length : tie.Need-shape_of-s
-same_length c = search rules
+shape_of-s : tie.Need-shape_of-s
+shape_of-s c = search rules
 
-returns-2 : tie.Need-returns
+returns : tie.Need-returns
 unfolding put_all
-returns-2 c =
+returns c =
     let a = c.before.before.before.before.before.before.before.before.before.before in
     let q = a.args.q in
     let e1 = c.before.before.before.before.before.before.put_flag.ensures in
@@ -32,4 +32,4 @@ returns-2 c =
     (turns_stability q f _ _ e, e ∙ sym (put_here _ _ _ c.before.before.before.before.before.before.before.before.if-s-ne-STATE_LENGTH.false))
 
 pub put_stability_spec : {M : Type 1} → statement M
-put_stability_spec = tie.close (tie.spec returns put-flag-requires put-u16-requires same_length returns-2)
+put_stability_spec = tie.close (tie.spec returns-then-s-ne-STATE_LENGTH put_flag-requires put_u16-requires shape_of-s returns)

@@ -9,33 +9,33 @@ use Rattle.images.proofs.InPlace.{turns_totals, holds_length}
 use Rattle.images.proofs.parts.put_totals.Statement.{statement}
 use Rattle.images.proofs.parts.put_totals.Tie as tie
 
-returns : tie.Need-returns-then-s-ne-STATE_LENGTH
-returns c = ((λ st h. absurd (c.if-s-ne-STATE_LENGTH.true (holds_length h))), sym (put_nowhere _ _ _ c.if-s-ne-STATE_LENGTH.true))
+returns-then-s-ne-STATE_LENGTH : tie.Need-returns-then-s-ne-STATE_LENGTH
+returns-then-s-ne-STATE_LENGTH c = ((λ st h. absurd (c.if-s-ne-STATE_LENGTH.true (holds_length h))), sym (put_nowhere _ _ _ c.if-s-ne-STATE_LENGTH.true))
 
-put-u64-requires : tie.Need-put_u64-requires
-put-u64-requires c κs = search rules
+put_u64-requires : tie.Need-put_u64-requires
+put_u64-requires c κs = search rules
 
-put-u32-requires : tie.Need-put_u32-requires
-put-u32-requires c κs = search rules
+put_u32-requires : tie.Need-put_u32-requires
+put_u32-requires c κs = search rules
 
-back-tag-requires : tie.Need-back_tag-requires
-back-tag-requires c κs = search rules
+back_tag-requires : tie.Need-back_tag-requires
+back_tag-requires c κs = search rules
 
-put-u8-requires : tie.Need-put_u8-requires
-put-u8-requires c κs = search rules
+put_u8-requires : tie.Need-put_u8-requires
+put_u8-requires c κs = search rules
 
-back-weight-requires : tie.Need-back_weight-requires
-back-weight-requires c κs = search rules
+back_weight-requires : tie.Need-back_weight-requires
+back_weight-requires c κs = search rules
 
-put-u64-requires-2 : tie.Need-put_u64-requires-2
-put-u64-requires-2 c κs = search rules
+put_u64-requires-2 : tie.Need-put_u64-requires-2
+put_u64-requires-2 c κs = search rules
 
-same_length : tie.Need-shape_of-s
-same_length c = search rules
+shape_of-s : tie.Need-shape_of-s
+shape_of-s c = search rules
 
-returns-2 : tie.Need-returns
+returns : tie.Need-returns
 unfolding put_all
-returns-2 c =
+returns c =
     let a = c.before.before.before.before.before.before.before.before.before.before.before.before.before.before.before.before.before.before.before.before in
     let t = a.args.t in
     let e1 = c.before.before.before.before.before.before.before.before.before.before.before.before.before.before.before.before.put_u64.ensures in
@@ -49,12 +49,12 @@ pub put_totals_spec : {M : Type 1} → statement M
 put_totals_spec =
     tie.close
     (tie.spec
-    returns
-    put-u64-requires
-    put-u32-requires
-    back-tag-requires
-    put-u8-requires
-    back-weight-requires
-    put-u64-requires-2
-    same_length
-    returns-2)
+    returns-then-s-ne-STATE_LENGTH
+    put_u64-requires
+    put_u32-requires
+    back_tag-requires
+    put_u8-requires
+    back_weight-requires
+    put_u64-requires-2
+    shape_of-s
+    returns)

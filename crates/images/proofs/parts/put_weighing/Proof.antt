@@ -15,27 +15,27 @@ use Rattle.images.proofs.parts.put_weighing.Tie as tie
 fields : (s : tie.Start) → HeldWeighing s.args.w
 fields s = record { zero = search sfits_of; tracked = search sfits_of; tare = search sfits_of; counter = omega arith }
 
-returns : tie.Need-returns-then-s-ne-STATE_LENGTH
-returns c = ((λ st h. absurd (c.if-s-ne-STATE_LENGTH.true (holds_length h))), sym (put_nowhere _ _ _ c.if-s-ne-STATE_LENGTH.true))
+returns-then-s-ne-STATE_LENGTH : tie.Need-returns-then-s-ne-STATE_LENGTH
+returns-then-s-ne-STATE_LENGTH c = ((λ st h. absurd (c.if-s-ne-STATE_LENGTH.true (holds_length h))), sym (put_nowhere _ _ _ c.if-s-ne-STATE_LENGTH.true))
 
-put-i32-requires : tie.Need-put_i32-requires
-put-i32-requires c κs = search rules
+put_i32-requires : tie.Need-put_i32-requires
+put_i32-requires c κs = search rules
 
-put-i32-requires-2 : tie.Need-put_i32-requires-2
-put-i32-requires-2 c κs = search rules
+put_i32-requires-2 : tie.Need-put_i32-requires-2
+put_i32-requires-2 c κs = search rules
 
-put-i32-requires-3 : tie.Need-put_i32-requires-3
-put-i32-requires-3 c κs = search rules
+put_i32-requires-3 : tie.Need-put_i32-requires-3
+put_i32-requires-3 c κs = search rules
 
-put-u16-requires : tie.Need-put_u16-requires
-put-u16-requires c κs = search rules
+put_u16-requires : tie.Need-put_u16-requires
+put_u16-requires c κs = search rules
 
-same_length : tie.Need-shape_of-s
-same_length c = search rules
+shape_of-s : tie.Need-shape_of-s
+shape_of-s c = search rules
 
-returns-2 : tie.Need-returns
+returns : tie.Need-returns
 unfolding put_all
-returns-2 c =
+returns c =
     let a = c.before.before.before.before.before.before.before.before.before.before.before.before.before.before.before.before.before.before.before.before.before in
     let w = a.args.w in
     let f = fields a in
@@ -49,10 +49,10 @@ pub put_weighing_spec : {M : Type 1} → statement M
 put_weighing_spec =
     tie.close
     (tie.spec
-    returns
-    put-i32-requires
-    put-i32-requires-2
-    put-i32-requires-3
-    put-u16-requires
-    same_length
-    returns-2)
+    returns-then-s-ne-STATE_LENGTH
+    put_i32-requires
+    put_i32-requires-2
+    put_i32-requires-3
+    put_u16-requires
+    shape_of-s
+    returns)

@@ -9,37 +9,37 @@ use Rattle.images.proofs.Buffers.{of_long, of_short}
 use Rattle.images.proofs.parts.sequence_at.Statement.{statement}
 use Rattle.images.proofs.parts.sequence_at.Tie as tie
 
-returns : tie.Need-returns-then-s-lt-EARLIER_LENGTH
+returns-then-s-lt-EARLIER_LENGTH : tie.Need-returns-then-s-lt-EARLIER_LENGTH
 unfolding state_at get_all be_at stage_of error_of judgement_of
-returns c = ap (λ (b : List ℕ). (state_at b).sequence) (sym (of_short _ c.if-s-lt-EARLIER_LENGTH.true))
+returns-then-s-lt-EARLIER_LENGTH c = ap (λ (b : List ℕ). (state_at b).sequence) (sym (of_short _ c.if-s-lt-EARLIER_LENGTH.true))
 
-u8-at-requires : tie.Need-u8_at-requires
-u8-at-requires c κs = search rules
+u8_at-requires : tie.Need-u8_at-requires
+u8_at-requires c κs = search rules
 
-u16-at-requires : tie.Need-u16_at-requires
-u16-at-requires c κs = search rules
+u16_at-requires : tie.Need-u16_at-requires
+u16_at-requires c κs = search rules
 
-stage-of-requires : tie.Need-stage_of-stage-requires
-stage-of-requires c κs = search rules
+stage_of-stage-requires : tie.Need-stage_of-stage-requires
+stage_of-stage-requires c κs = search rules
 
-u16-at-requires-2 : tie.Need-u16_at-clock-requires
-u16-at-requires-2 c κs = search rules
+u16_at-clock-requires : tie.Need-u16_at-clock-requires
+u16_at-clock-requires c κs = search rules
 
-u8-at-requires-2 : tie.Need-u8_at-requires-2
-u8-at-requires-2 c κs = search rules
+u8_at-requires-2 : tie.Need-u8_at-requires-2
+u8_at-requires-2 c κs = search rules
 
-error-of-requires : tie.Need-error_of-error-requires
-error-of-requires c κs = search rules
+error_of-error-requires : tie.Need-error_of-error-requires
+error_of-error-requires c κs = search rules
 
-u8-at-requires-3 : tie.Need-u8_at-requires-3
-u8-at-requires-3 c κs = search rules
+u8_at-requires-3 : tie.Need-u8_at-requires-3
+u8_at-requires-3 c κs = search rules
 
-judgement-of-requires : tie.Need-judgement_of-judgement-requires
-judgement-of-requires c κs = search rules
+judgement_of-judgement-requires : tie.Need-judgement_of-judgement-requires
+judgement_of-judgement-requires c κs = search rules
 
-returns-2 : tie.Need-returns
+returns : tie.Need-returns
 unfolding state_at get_all
-returns-2 c =
+returns c =
     (λ i. record {
       stage = (c.before.before.before.before.before.stage_of-stage.ensures ∙ (λ j. stage_of (c.before.before.before.before.before.before.before.u8_at.ensures j) (c.before.before.before.before.before.before.u16_at.ensures j))) i;
       clock = c.before.before.before.before.u16_at-clock.ensures i;
@@ -52,13 +52,13 @@ pub sequence_at_spec : {M : Type 1} → statement M
 sequence_at_spec =
     tie.close
     (tie.spec
-    returns
-    u8-at-requires
-    u16-at-requires
-    stage-of-requires
-    u16-at-requires-2
-    u8-at-requires-2
-    error-of-requires
-    u8-at-requires-3
-    judgement-of-requires
-    returns-2)
+    returns-then-s-lt-EARLIER_LENGTH
+    u8_at-requires
+    u16_at-requires
+    stage_of-stage-requires
+    u16_at-clock-requires
+    u8_at-requires-2
+    error_of-error-requires
+    u8_at-requires-3
+    judgement_of-judgement-requires
+    returns)

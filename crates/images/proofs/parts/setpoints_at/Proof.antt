@@ -9,34 +9,34 @@ use Rattle.images.proofs.Buffers.{of_long, of_short}
 use Rattle.images.proofs.parts.setpoints_at.Statement.{statement}
 use Rattle.images.proofs.parts.setpoints_at.Tie as tie
 
-returns : tie.Need-returns-then-s-lt-EARLIER_LENGTH
+returns-then-s-lt-EARLIER_LENGTH : tie.Need-returns-then-s-lt-EARLIER_LENGTH
 unfolding state_at get_all be_at
-returns c = ap (λ (b : List ℕ). (state_at b).setpoints) (sym (of_short _ c.if-s-lt-EARLIER_LENGTH.true))
+returns-then-s-lt-EARLIER_LENGTH c = ap (λ (b : List ℕ). (state_at b).setpoints) (sym (of_short _ c.if-s-lt-EARLIER_LENGTH.true))
 
-u32-at-requires : tie.Need-u32_at-target-requires
-u32-at-requires c κs = search rules
+u32_at-target-requires : tie.Need-u32_at-target-requires
+u32_at-target-requires c κs = search rules
 
-u32-at-requires-2 : tie.Need-u32_at-fall-requires
-u32-at-requires-2 c κs = search rules
+u32_at-fall-requires : tie.Need-u32_at-fall-requires
+u32_at-fall-requires c κs = search rules
 
-u32-at-requires-3 : tie.Need-u32_at-preliminary-requires
-u32-at-requires-3 c κs = search rules
+u32_at-preliminary-requires : tie.Need-u32_at-preliminary-requires
+u32_at-preliminary-requires c κs = search rules
 
-u32-at-requires-4 : tie.Need-u32_at-optional-requires
-u32-at-requires-4 c κs = search rules
+u32_at-optional-requires : tie.Need-u32_at-optional-requires
+u32_at-optional-requires c κs = search rules
 
-u32-at-requires-5 : tie.Need-u32_at-over-requires
-u32-at-requires-5 c κs = search rules
+u32_at-over-requires : tie.Need-u32_at-over-requires
+u32_at-over-requires c κs = search rules
 
-u32-at-requires-6 : tie.Need-u32_at-under-requires
-u32-at-requires-6 c κs = search rules
+u32_at-under-requires : tie.Need-u32_at-under-requires
+u32_at-under-requires c κs = search rules
 
-u32-at-requires-7 : tie.Need-u32_at-near-requires
-u32-at-requires-7 c κs = search rules
+u32_at-near-requires : tie.Need-u32_at-near-requires
+u32_at-near-requires c κs = search rules
 
-returns-2 : tie.Need-returns
+returns : tie.Need-returns
 unfolding state_at get_all
-returns-2 c =
+returns c =
     (λ i. record {
       target = c.before.before.before.before.before.before.u32_at-target.ensures i;
       fall = c.before.before.before.before.before.u32_at-fall.ensures i;
@@ -52,12 +52,12 @@ pub setpoints_at_spec : {M : Type 1} → statement M
 setpoints_at_spec =
     tie.close
     (tie.spec
-    returns
-    u32-at-requires
-    u32-at-requires-2
-    u32-at-requires-3
-    u32-at-requires-4
-    u32-at-requires-5
-    u32-at-requires-6
-    u32-at-requires-7
-    returns-2)
+    returns-then-s-lt-EARLIER_LENGTH
+    u32_at-target-requires
+    u32_at-fall-requires
+    u32_at-preliminary-requires
+    u32_at-optional-requires
+    u32_at-over-requires
+    u32_at-under-requires
+    u32_at-near-requires
+    returns)

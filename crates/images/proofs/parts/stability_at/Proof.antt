@@ -9,19 +9,19 @@ use Rattle.images.proofs.Buffers.{of_long, of_short}
 use Rattle.images.proofs.parts.stability_at.Statement.{statement}
 use Rattle.images.proofs.parts.stability_at.Tie as tie
 
-returns : tie.Need-returns-then-s-lt-EARLIER_LENGTH
+returns-then-s-lt-EARLIER_LENGTH : tie.Need-returns-then-s-lt-EARLIER_LENGTH
 unfolding state_at get_all be_at flag_of
-returns c = ap (λ (b : List ℕ). (state_at b).stability) (sym (of_short _ c.if-s-lt-EARLIER_LENGTH.true))
+returns-then-s-lt-EARLIER_LENGTH c = ap (λ (b : List ℕ). (state_at b).stability) (sym (of_short _ c.if-s-lt-EARLIER_LENGTH.true))
 
-flag-at-requires : tie.Need-flag_at-good-requires
-flag-at-requires c κs = search rules
+flag_at-good-requires : tie.Need-flag_at-good-requires
+flag_at-good-requires c κs = search rules
 
-u16-at-requires : tie.Need-u16_at-run-requires
-u16-at-requires c κs = search rules
+u16_at-run-requires : tie.Need-u16_at-run-requires
+u16_at-run-requires c κs = search rules
 
-returns-2 : tie.Need-returns
+returns : tie.Need-returns
 unfolding state_at get_all
-returns-2 c =
+returns c =
     (λ i. record {
       good = c.before.flag_at-good.ensures i;
       run = c.u16_at-run.ensures i;
@@ -29,4 +29,4 @@ returns-2 c =
     ∙ ap (λ (b : List ℕ). (state_at b).stability) (sym (of_long _ c.before.before.if-s-lt-EARLIER_LENGTH.false))
 
 pub stability_at_spec : {M : Type 1} → statement M
-stability_at_spec = tie.close (tie.spec returns flag-at-requires u16-at-requires returns-2)
+stability_at_spec = tie.close (tie.spec returns-then-s-lt-EARLIER_LENGTH flag_at-good-requires u16_at-run-requires returns)

@@ -9,28 +9,28 @@ use Rattle.images.proofs.Buffers.{of_long, of_short}
 use Rattle.images.proofs.parts.totals_at.Statement.{statement}
 use Rattle.images.proofs.parts.totals_at.Tie as tie
 
-returns : tie.Need-returns-then-s-lt-EARLIER_LENGTH
+returns-then-s-lt-EARLIER_LENGTH : tie.Need-returns-then-s-lt-EARLIER_LENGTH
 unfolding state_at get_all be_at back_of
-returns c = ap (λ (b : List ℕ). (state_at b).totals) (sym (of_short _ c.if-s-lt-EARLIER_LENGTH.true))
+returns-then-s-lt-EARLIER_LENGTH c = ap (λ (b : List ℕ). (state_at b).totals) (sym (of_short _ c.if-s-lt-EARLIER_LENGTH.true))
 
-u64-at-requires : tie.Need-u64_at-total-requires
-u64-at-requires c κs = search rules
+u64_at-total-requires : tie.Need-u64_at-total-requires
+u64_at-total-requires c κs = search rules
 
-u32-at-requires : tie.Need-u32_at-count-requires
-u32-at-requires c κs = search rules
+u32_at-count-requires : tie.Need-u32_at-count-requires
+u32_at-count-requires c κs = search rules
 
-u8-at-requires : tie.Need-u8_at-requires
-u8-at-requires c κs = search rules
+u8_at-requires : tie.Need-u8_at-requires
+u8_at-requires c κs = search rules
 
-u64-at-requires-2 : tie.Need-u64_at-requires
-u64-at-requires-2 c κs = search rules
+u64_at-requires : tie.Need-u64_at-requires
+u64_at-requires c κs = search rules
 
-back-of-requires : tie.Need-back_of-back-requires
-back-of-requires c κs = search rules
+back_of-back-requires : tie.Need-back_of-back-requires
+back_of-back-requires c κs = search rules
 
-returns-2 : tie.Need-returns
+returns : tie.Need-returns
 unfolding state_at get_all
-returns-2 c =
+returns c =
     (λ i. record {
       total = c.before.before.before.before.u64_at-total.ensures i;
       count = c.before.before.before.u32_at-count.ensures i;
@@ -42,10 +42,10 @@ pub totals_at_spec : {M : Type 1} → statement M
 totals_at_spec =
     tie.close
     (tie.spec
-    returns
-    u64-at-requires
-    u32-at-requires
-    u8-at-requires
-    u64-at-requires-2
-    back-of-requires
-    returns-2)
+    returns-then-s-lt-EARLIER_LENGTH
+    u64_at-total-requires
+    u32_at-count-requires
+    u8_at-requires
+    u64_at-requires
+    back_of-back-requires
+    returns)

@@ -9,40 +9,40 @@ use Rattle.images.proofs.Buffers.{of_length, of_other}
 use Rattle.images.proofs.parts.waiting_at.Statement.{statement}
 use Rattle.images.proofs.parts.waiting_at.Tie as tie
 
-returns : tie.Need-returns-then-s-ne-STATE_LENGTH
+returns-then-s-ne-STATE_LENGTH : tie.Need-returns-then-s-ne-STATE_LENGTH
 unfolding state_at get_all be_at write_of
-returns c = ap (λ (b : List ℕ). (state_at b).waiting) (sym (of_other state_length _ c.if-s-ne-STATE_LENGTH.true))
+returns-then-s-ne-STATE_LENGTH c = ap (λ (b : List ℕ). (state_at b).waiting) (sym (of_other state_length _ c.if-s-ne-STATE_LENGTH.true))
 
-u32-at-requires : tie.Need-u32_at-target-requires
-u32-at-requires c κs = search rules
+u32_at-target-requires : tie.Need-u32_at-target-requires
+u32_at-target-requires c κs = search rules
 
-u32-at-requires-2 : tie.Need-u32_at-fall-requires
-u32-at-requires-2 c κs = search rules
+u32_at-fall-requires : tie.Need-u32_at-fall-requires
+u32_at-fall-requires c κs = search rules
 
-u32-at-requires-3 : tie.Need-u32_at-preliminary-requires
-u32-at-requires-3 c κs = search rules
+u32_at-preliminary-requires : tie.Need-u32_at-preliminary-requires
+u32_at-preliminary-requires c κs = search rules
 
-u32-at-requires-4 : tie.Need-u32_at-optional-requires
-u32-at-requires-4 c κs = search rules
+u32_at-optional-requires : tie.Need-u32_at-optional-requires
+u32_at-optional-requires c κs = search rules
 
-u32-at-requires-5 : tie.Need-u32_at-over-requires
-u32-at-requires-5 c κs = search rules
+u32_at-over-requires : tie.Need-u32_at-over-requires
+u32_at-over-requires c κs = search rules
 
-u32-at-requires-6 : tie.Need-u32_at-under-requires
-u32-at-requires-6 c κs = search rules
+u32_at-under-requires : tie.Need-u32_at-under-requires
+u32_at-under-requires c κs = search rules
 
-u32-at-requires-7 : tie.Need-u32_at-near-requires
-u32-at-requires-7 c κs = search rules
+u32_at-near-requires : tie.Need-u32_at-near-requires
+u32_at-near-requires c κs = search rules
 
-u8-at-requires : tie.Need-u8_at-requires
-u8-at-requires c κs = search rules
+u8_at-requires : tie.Need-u8_at-requires
+u8_at-requires c κs = search rules
 
-write-of-requires : tie.Need-write_of-write-requires
-write-of-requires c κs = search rules
+write_of-write-requires : tie.Need-write_of-write-requires
+write_of-write-requires c κs = search rules
 
-returns-2 : tie.Need-returns
+returns : tie.Need-returns
 unfolding state_at get_all
-returns-2 c =
+returns c =
     let r = c.before.before in
     (λ i. record {
       write =
@@ -63,14 +63,14 @@ pub waiting_at_spec : {M : Type 1} → statement M
 waiting_at_spec =
     tie.close
     (tie.spec
-    returns
-    u32-at-requires
-    u32-at-requires-2
-    u32-at-requires-3
-    u32-at-requires-4
-    u32-at-requires-5
-    u32-at-requires-6
-    u32-at-requires-7
-    u8-at-requires
-    write-of-requires
-    returns-2)
+    returns-then-s-ne-STATE_LENGTH
+    u32_at-target-requires
+    u32_at-fall-requires
+    u32_at-preliminary-requires
+    u32_at-optional-requires
+    u32_at-over-requires
+    u32_at-under-requires
+    u32_at-near-requires
+    u8_at-requires
+    write_of-write-requires
+    returns)

@@ -11,25 +11,25 @@ use Rattle.images.proofs.Buffers.{of_long, of_short}
 use Rattle.images.proofs.parts.weighing_at.Statement.{statement}
 use Rattle.images.proofs.parts.weighing_at.Tie as tie
 
-returns : tie.Need-returns-then-s-lt-EARLIER_LENGTH
+returns-then-s-lt-EARLIER_LENGTH : tie.Need-returns-then-s-lt-EARLIER_LENGTH
 unfolding state_at get_all be_at signed
-returns c = ap (λ (b : List ℕ). (state_at b).weighing) (sym (of_short _ c.if-s-lt-EARLIER_LENGTH.true))
+returns-then-s-lt-EARLIER_LENGTH c = ap (λ (b : List ℕ). (state_at b).weighing) (sym (of_short _ c.if-s-lt-EARLIER_LENGTH.true))
 
-i32-at-requires : tie.Need-i32_at-zero-requires
-i32-at-requires c κs = search rules
+i32_at-zero-requires : tie.Need-i32_at-zero-requires
+i32_at-zero-requires c κs = search rules
 
-i32-at-requires-2 : tie.Need-i32_at-tracked-requires
-i32-at-requires-2 c κs = search rules
+i32_at-tracked-requires : tie.Need-i32_at-tracked-requires
+i32_at-tracked-requires c κs = search rules
 
-i32-at-requires-3 : tie.Need-i32_at-tare-requires
-i32-at-requires-3 c κs = search rules
+i32_at-tare-requires : tie.Need-i32_at-tare-requires
+i32_at-tare-requires c κs = search rules
 
-u16-at-requires : tie.Need-u16_at-counter-requires
-u16-at-requires c κs = search rules
+u16_at-counter-requires : tie.Need-u16_at-counter-requires
+u16_at-counter-requires c κs = search rules
 
-returns-2 : tie.Need-returns
+returns : tie.Need-returns
 unfolding state_at get_all
-returns-2 c =
+returns c =
     (λ i. record {
       zero = ((got {w = w32} _ c.before.before.before.i32_at-zero.type-inv).read ∙ c.before.before.before.i32_at-zero.ensures) i;
       tracked = ((got {w = w32} _ c.before.before.i32_at-tracked.type-inv).read ∙ c.before.before.i32_at-tracked.ensures) i;
@@ -41,4 +41,4 @@ returns-2 c =
 pub weighing_at_spec : {M : Type 1} → statement M
 weighing_at_spec =
     tie.close
-    (tie.spec returns i32-at-requires i32-at-requires-2 i32-at-requires-3 u16-at-requires returns-2)
+    (tie.spec returns-then-s-lt-EARLIER_LENGTH i32_at-zero-requires i32_at-tracked-requires i32_at-tare-requires u16_at-counter-requires returns)

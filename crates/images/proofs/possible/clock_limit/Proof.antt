@@ -8,28 +8,28 @@ use Rattle.images.specs.Possible.{clock_limit}
 use Rattle.images.proofs.possible.clock_limit.Statement.{statement}
 use Rattle.images.proofs.possible.clock_limit.Tie as tie
 
-returns : tie.Need-returns-then-n-lt4
+returns-then-n-lt4 : tie.Need-returns-then-n-lt4
 unfolding clock_limit
-returns c = simp (lt-ltb _ _ c.if-n-lt4.true)
+returns-then-n-lt4 c = simp (lt-ltb _ _ c.if-n-lt4.true)
 
 given-requires : tie.Need-given-requires
 given-requires c κs = search rules
 
-returns-2 : tie.Need-returns-then-n-le11
+returns-then-n-le11 : tie.Need-returns-then-n-le11
 unfolding clock_limit settings_of given_at get_all
-returns-2 c = simp (c.given.ensures, le-leb _ _ c.before.if-n-le11.true, le-ltb _ _ c.before.before.if-n-lt4.false)
+returns-then-n-le11 c = simp (c.given.ensures, le-leb _ _ c.before.if-n-le11.true, le-ltb _ _ c.before.before.if-n-lt4.false)
 
-given-requires-2 : tie.Need-given-requires-then-n-ge15
-given-requires-2 c κs = search rules
+given-requires-then-n-ge15 : tie.Need-given-requires-then-n-ge15
+given-requires-then-n-ge15 c κs = search rules
 
-returns-3 : tie.Need-returns-then-n-ge15
+returns-then-n-ge15 : tie.Need-returns-then-n-ge15
 unfolding clock_limit settings_of given_at get_all
-returns-3 c = simp (c.given-then-n-ge15.ensures, le-leb _ _ c.before.if-n-ge15.true, lt-leb _ _ c.before.before.if-n-le11.false, le-ltb _ _ c.before.before.before.if-n-lt4.false)
+returns-then-n-ge15 c = simp (c.given-then-n-ge15.ensures, le-leb _ _ c.before.if-n-ge15.true, lt-leb _ _ c.before.before.if-n-le11.false, le-ltb _ _ c.before.before.before.if-n-lt4.false)
 
-returns-4 : tie.Need-returns
+returns : tie.Need-returns
 unfolding clock_limit
-returns-4 c = simp (lt-leb _ _ c.if-n-ge15.false, lt-leb _ _ c.before.if-n-le11.false, le-ltb _ _ c.before.before.if-n-lt4.false)
+returns c = simp (lt-leb _ _ c.if-n-ge15.false, lt-leb _ _ c.before.if-n-le11.false, le-ltb _ _ c.before.before.if-n-lt4.false)
 
 pub clock_limit_spec : {M : Type 1} → statement M
 clock_limit_spec =
-    tie.close (tie.spec returns given-requires returns-2 given-requires-2 returns-3 returns-4)
+    tie.close (tie.spec returns-then-n-lt4 given-requires returns-then-n-le11 given-requires-then-n-ge15 returns-then-n-ge15 returns)

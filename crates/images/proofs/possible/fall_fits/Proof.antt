@@ -31,26 +31,26 @@ summed c =
 magnitude-requires : tie.Need-magnitude-requires
 magnitude-requires c κs = search rules
 
-returns : tie.Need-returns-then-magnitude-gt-SUM_ROOM
-returns c =
+returns-then-magnitude-gt-SUM_ROOM : tie.Need-returns-then-magnitude-gt-SUM_ROOM
+returns-then-magnitude-gt-SUM_ROOM c =
     let s = c.before.before in
     let large : raw_limit < nat_abs (s.args.unbooked +ℤ s.args.last) = omega (arith, large_sum s.args.unbooked s.args.last (omega (arith, c.if-magnitude-gt-SUM_ROOM.true, unbooked c.before)) (abs_fits w32 s.ranges.last)) in
     sym (lt-leb _ _ large)
 
-cast-magnitude : tie.Need-overflow_cast-last
-cast-magnitude c = let f = c.before.before.ranges.last in cast_need (arg f) (wider f)
+overflow_cast-last : tie.Need-overflow_cast-last
+overflow_cast-last c = let f = c.before.before.ranges.last in cast_need (arg f) (wider f)
 
-add-magnitude : tie.Need-overflow_add-unbooked
-add-magnitude c = let s = c.before.before in add_need (arg s.ranges.unbooked) (widened s.ranges.last) (summed c)
+overflow_add-unbooked : tie.Need-overflow_add-unbooked
+overflow_add-unbooked c = let s = c.before.before in add_need (arg s.ranges.unbooked) (widened s.ranges.last) (summed c)
 
 magnitude-requires-2 : tie.Need-magnitude-requires-2
 magnitude-requires-2 c κs = search rules
 
-cast-result : tie.Need-overflow_cast-result
-cast-result c = search rules
+overflow_cast-result : tie.Need-overflow_cast-result
+overflow_cast-result c = search rules
 
-returns-2 : tie.Need-returns
-returns-2 c =
+returns : tie.Need-returns
+returns c =
     let s = c.before.before.before in
     ap (λ (n : ℕ). leb n raw_limit) (c.magnitude-2.ensures ∙ ap nat_abs (add (arg s.ranges.unbooked) (widened s.ranges.last) (summed c.before)).read)
 
@@ -59,9 +59,9 @@ fall_fits_spec =
     tie.close
     (tie.spec
     magnitude-requires
-    returns
-    cast-magnitude
-    add-magnitude
+    returns-then-magnitude-gt-SUM_ROOM
+    overflow_cast-last
+    overflow_add-unbooked
     magnitude-requires-2
-    cast-result
-    returns-2)
+    overflow_cast-result
+    returns)

@@ -7,8 +7,8 @@ use Rattle.whole.specs.Bits.{got}
 use Rattle.images.proofs.possible.given.Statement.{statement}
 use Rattle.images.proofs.possible.given.Tie as tie
 
-i32-at-requires : tie.Need-i32_at-requires
-i32-at-requires c κs = search rules
+i32_at-requires : tie.Need-i32_at-requires
+i32_at-requires c κs = search rules
 
 size-requires : tie.Need-size-requires
 size-requires c κs = search rules
@@ -17,4 +17,4 @@ returns : tie.Need-returns
 returns c = c.size.ensures ∙ ap nat_abs ((got {w = w32} _ c.before.i32_at.type-inv).read ∙ c.before.i32_at.ensures)
 
 pub given_spec : {M : Type 1} → statement M
-given_spec = tie.close (tie.spec i32-at-requires size-requires returns)
+given_spec = tie.close (tie.spec i32_at-requires size-requires returns)

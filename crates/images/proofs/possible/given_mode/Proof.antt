@@ -9,15 +9,15 @@ use Rattle.images.specs.GivenImage.{given_at}
 use Rattle.images.proofs.possible.given_mode.Statement.{statement}
 use Rattle.images.proofs.possible.given_mode.Tie as tie
 
-i32-at-requires : tie.Need-i32_at-requires
-i32-at-requires c κs = search rules
+i32_at-requires : tie.Need-i32_at-requires
+i32_at-requires c κs = search rules
 
-mode-of-requires : tie.Need-mode_of-requires
-mode-of-requires c κs = search rules
+mode_of-requires : tie.Need-mode_of-requires
+mode_of-requires c κs = search rules
 
 returns : tie.Need-returns
 unfolding settings_of given_at get_all
 returns c = c.Mode-of.ensures ∙ ap mode_of ((got {w = w32} _ c.before.i32_at.type-inv).read ∙ c.before.i32_at.ensures)
 
 pub given_mode_spec : {M : Type 1} → statement M
-given_mode_spec = tie.close (tie.spec i32-at-requires mode-of-requires returns)
+given_mode_spec = tie.close (tie.spec i32_at-requires mode_of-requires returns)

@@ -33,21 +33,21 @@ module _ (c : tie.Start) where
         c.requires.1,
       ))
 
-cast-result : tie.Need-overflow_cast-result
-cast-result c = let f = c.ranges.opening in cast_need (arg f) (wider f)
+overflow_cast-result : tie.Need-overflow_cast-result
+overflow_cast-result c = let f = c.ranges.opening in cast_need (arg f) (wider f)
 
-add-result : tie.Need-overflow_add-result
-add-result c = add_need (widened c.ranges.opening) (arg c.ranges.refilled) (one c)
+overflow_add-result : tie.Need-overflow_add-result
+overflow_add-result c = add_need (widened c.ranges.opening) (arg c.ranges.refilled) (one c)
 
-sub-result : tie.Need-overflow_sub-result
-sub-result c = sub_need (add (widened c.ranges.opening) (arg c.ranges.refilled) (one c)) (arg c.ranges.used) (two c)
+overflow_sub-result : tie.Need-overflow_sub-result
+overflow_sub-result c = sub_need (add (widened c.ranges.opening) (arg c.ranges.refilled) (one c)) (arg c.ranges.used) (two c)
 
-sub-result-2 : tie.Need-overflow_sub-result-2
-sub-result-2 c =
+overflow_sub-result-2 : tie.Need-overflow_sub-result-2
+overflow_sub-result-2 c =
     sub_need (sub (add (widened c.ranges.opening) (arg c.ranges.refilled) (one c)) (arg c.ranges.used) (two c)) (arg c.ranges.unbooked) (three c)
 
-cast-result-2 : tie.Need-overflow_cast-result-2
-cast-result-2 c = let f = c.ranges.last in cast_need (arg f) (wider f)
+overflow_cast-result-2 : tie.Need-overflow_cast-result-2
+overflow_cast-result-2 c = let f = c.ranges.last in cast_need (arg f) (wider f)
 
 returns : tie.Need-returns
 returns c =
@@ -57,4 +57,4 @@ returns c =
 
 pub is_balanced_spec : {M : Type 1} → statement M
 is_balanced_spec =
-    tie.close (tie.spec cast-result add-result sub-result sub-result-2 cast-result-2 returns)
+    tie.close (tie.spec overflow_cast-result overflow_add-result overflow_sub-result overflow_sub-result-2 overflow_cast-result-2 returns)

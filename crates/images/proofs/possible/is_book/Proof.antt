@@ -52,29 +52,29 @@ was_fall c = sym (fallen c.before) ∙ not-false _ c.if-not-fall_fits.false
 near_sum : (x y : ℤ) → nat_abs (x +ℤ y) ≤ 4000000 → nat_abs y ≤ 2147483648 → nat_abs x ≤ 1000000000000000000
 near_sum = ints2 _ (λ a a' b b' h k. simp ints (omega (linear, simp ints at h, simp ints at k)))
 
-sums-fit-requires : tie.Need-sums_fit-requires
-sums-fit-requires c κs = search rules
+sums_fit-requires : tie.Need-sums_fit-requires
+sums_fit-requires c κs = search rules
 
-returns : tie.Need-returns-then-not-sums_fit
-returns c = book_sums _ (sym (summed c.before) ∙ not-true _ c.if-not-sums_fit.true)
+returns-then-not-sums_fit : tie.Need-returns-then-not-sums_fit
+returns-then-not-sums_fit c = book_sums _ (sym (summed c.before) ∙ not-true _ c.if-not-sums_fit.true)
 
-fall-fits-requires : tie.Need-fall_fits-requires
-fall-fits-requires c κs = search rules
+fall_fits-requires : tie.Need-fall_fits-requires
+fall_fits-requires c κs = search rules
 
-returns-2 : tie.Need-returns-then-not-fall_fits
-returns-2 c = book_fall _ (sym (fallen c.before) ∙ not-true _ c.if-not-fall_fits.true)
+returns-then-not-fall_fits : tie.Need-returns-then-not-fall_fits
+returns-then-not-fall_fits c = book_fall _ (sym (fallen c.before) ∙ not-true _ c.if-not-fall_fits.true)
 
-is-raw-requires : tie.Need-is_raw-requires
-is-raw-requires c κs = search rules
+is_raw-requires : tie.Need-is_raw-requires
+is_raw-requires c κs = search rules
 
-is-raw-requires-2 : tie.Need-is_raw-requires-2
-is-raw-requires-2 c κs = search rules
+is_raw-requires-2 : tie.Need-is_raw-requires-2
+is_raw-requires-2 c κs = search rules
 
-is-blank-requires : tie.Need-is_blank-requires
-is-blank-requires c κs = search rules
+is_blank-requires : tie.Need-is_blank-requires
+is_blank-requires c κs = search rules
 
-is-balanced-requires : tie.Need-is_balanced-requires
-is-balanced-requires c κs =
+is_balanced-requires : tie.Need-is_balanced-requires
+is_balanced-requires c κs =
     let s = c.before.before.before.before.before.before.before.before.before.before.before.before.before.before.before.before.before.before.before.before.before.before.before in
     let b = s.args.b in
     let h = fields s in (
@@ -82,8 +82,8 @@ is-balanced-requires c κs =
       simp (to_z-of_z h.unbooked) (near_sum b.unbooked b.last (leb-true _ _ (was_fall c.before.before.before.before.before.before.before.before.before.before.before.before.before.before.before)) (abs_fits w32 h.last)),
     )
 
-returns-3 : tie.Need-returns
-returns-3 c =
+returns : tie.Need-returns
+returns c =
     let s = c.before.before.before.before.before.before.before.before.before.before.before.before.before.before.before.before.before.before.before.before.before.before.before.before in
     let b = s.args.b in
     let h = fields s in
@@ -104,12 +104,12 @@ pub is_book_spec : {M : Type 1} → statement M
 is_book_spec =
     tie.close
     (tie.spec
-    sums-fit-requires
-    returns
-    fall-fits-requires
-    returns-2
-    is-raw-requires
-    is-raw-requires-2
-    is-blank-requires
-    is-balanced-requires
-    returns-3)
+    sums_fit-requires
+    returns-then-not-sums_fit
+    fall_fits-requires
+    returns-then-not-fall_fits
+    is_raw-requires
+    is_raw-requires-2
+    is_blank-requires
+    is_balanced-requires
+    returns)

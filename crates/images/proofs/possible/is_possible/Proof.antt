@@ -53,76 +53,76 @@ waiting c f =
     let g = settings_of (given_at c.before.before.before.before.before.before.before.before.before.before.before.before.before.before.before.before.args.g.now) in
     c.write_fits_lem.ensures ∙ ap (λ (w : Waiting). write_fits g.batching.mode w.write) (waiting_here _ f c.before.waiting_at-waiting.ensures)
 
-returns : tie.Need-returns-then-g-ne-GIVEN_LENGTH
-returns c = sym (possible_no_settings _ _ c.if-g-ne-GIVEN_LENGTH.true)
+returns-then-g-ne-GIVEN_LENGTH : tie.Need-returns-then-g-ne-GIVEN_LENGTH
+returns-then-g-ne-GIVEN_LENGTH c = sym (possible_no_settings _ _ c.if-g-ne-GIVEN_LENGTH.true)
 
-is-image-requires : tie.Need-is_image-requires
-is-image-requires c κs = search rules
+is_image-requires : tie.Need-is_image-requires
+is_image-requires c κs = search rules
 
-returns-2 : tie.Need-returns-then-not-is_image
-returns-2 c = sym (possible_no_state _ _ c.before.before.if-g-ne-GIVEN_LENGTH.false (sym c.before.is_image.ensures ∙ not-true _ c.if-not-is_image.true))
+returns-then-not-is_image : tie.Need-returns-then-not-is_image
+returns-then-not-is_image c = sym (possible_no_state _ _ c.before.before.if-g-ne-GIVEN_LENGTH.false (sym c.before.is_image.ensures ∙ not-true _ c.if-not-is_image.true))
 
-book-at-requires : tie.Need-book_at-book-requires
-book-at-requires c κs = search rules
+book_at-book-requires : tie.Need-book_at-book-requires
+book_at-book-requires c κs = search rules
 
-is-book-requires : tie.Need-is_book-requires
-is-book-requires c κs = search rules
+is_book-requires : tie.Need-is_book-requires
+is_book-requires c κs = search rules
 
-returns-3 : tie.Need-returns-then-not-is_book
-returns-3 c =
+returns-then-not-is_book : tie.Need-returns-then-not-is_book
+returns-then-not-is_book c =
     let k = lengths c.before in
     not_book _ _ (sym (book c.before k.1) ∙ not-true _ c.if-not-is_book.true) ∙ sym (possible_here _ _ k.0 k.1)
 
-totals-at-requires : tie.Need-totals_at-totals-requires
-totals-at-requires c κs = search rules
+totals_at-totals-requires : tie.Need-totals_at-totals-requires
+totals_at-totals-requires c κs = search rules
 
-is-totals-requires : tie.Need-is_totals-requires
-is-totals-requires c κs = search rules
+is_totals-requires : tie.Need-is_totals-requires
+is_totals-requires c κs = search rules
 
-returns-4 : tie.Need-returns-then-not-is_totals
-returns-4 c =
+returns-then-not-is_totals : tie.Need-returns-then-not-is_totals
+returns-then-not-is_totals c =
     let k = lengths c.before.before.before.before in
     not_totals _ _ (sym (totals c.before k.1) ∙ not-true _ c.if-not-is_totals.true) ∙ sym (possible_here _ _ k.0 k.1)
 
-weighing-at-requires : tie.Need-weighing_at-weighing-requires
-weighing-at-requires c κs = search rules
+weighing_at-weighing-requires : tie.Need-weighing_at-weighing-requires
+weighing_at-weighing-requires c κs = search rules
 
-is-weighing-requires : tie.Need-is_weighing-requires
-is-weighing-requires c κs = search rules
+is_weighing-requires : tie.Need-is_weighing-requires
+is_weighing-requires c κs = search rules
 
-returns-5 : tie.Need-returns-then-not-is_weighing
-returns-5 c =
+returns-then-not-is_weighing : tie.Need-returns-then-not-is_weighing
+returns-then-not-is_weighing c =
     let k = lengths c.before.before.before.before.before.before.before in
     not_weighing _ _ (sym (weighing c.before k.1) ∙ not-true _ c.if-not-is_weighing.true) ∙ sym (possible_here _ _ k.0 k.1)
 
-waiting-at-requires : tie.Need-waiting_at-waiting-requires
-waiting-at-requires c κs = search rules
+waiting_at-waiting-requires : tie.Need-waiting_at-waiting-requires
+waiting_at-waiting-requires c κs = search rules
 
-write-fits-requires : tie.Need-write_fits-requires
-write-fits-requires c κs = search rules
+write_fits-requires : tie.Need-write_fits-requires
+write_fits-requires c κs = search rules
 
-returns-6 : tie.Need-returns-then-not-write_fits
-returns-6 c =
+returns-then-not-write_fits : tie.Need-returns-then-not-write_fits
+returns-then-not-write_fits c =
     let k = lengths c.before.before.before.before.before.before.before.before.before.before in
     not_waiting _ _ (sym (waiting c.before k.1) ∙ not-true _ c.if-not-write_fits.true) ∙ sym (possible_here _ _ k.0 k.1)
 
-has-points-requires : tie.Need-has_points-waits-requires
-has-points-requires c κs = search rules
+has_points-waits-requires : tie.Need-has_points-waits-requires
+has_points-waits-requires c κs = search rules
 
-stability-at-requires : tie.Need-stability_at-stability-requires
-stability-at-requires c κs = search rules
+stability_at-stability-requires : tie.Need-stability_at-stability-requires
+stability_at-stability-requires c κs = search rules
 
-setpoints-at-requires : tie.Need-setpoints_at-setpoints-requires
-setpoints-at-requires c κs = search rules
+setpoints_at-setpoints-requires : tie.Need-setpoints_at-setpoints-requires
+setpoints_at-setpoints-requires c κs = search rules
 
-sequence-at-requires : tie.Need-sequence_at-sequence-requires
-sequence-at-requires c κs = search rules
+sequence_at-sequence-requires : tie.Need-sequence_at-sequence-requires
+sequence_at-sequence-requires c κs = search rules
 
-is-rest-requires : tie.Need-is_rest-requires
-is-rest-requires c κs = search rules
+is_rest-requires : tie.Need-is_rest-requires
+is_rest-requires c κs = search rules
 
-returns-7 : tie.Need-returns
-returns-7 c =
+returns : tie.Need-returns
+returns c =
     let v = c.before.before.before.before in
     let e6 = v.before in
     let e5 = e6.before.before.before in
@@ -152,24 +152,24 @@ pub is_possible_spec : {M : Type 1} → statement M
 is_possible_spec =
     tie.close
     (tie.spec
-    returns
-    is-image-requires
-    returns-2
-    book-at-requires
-    is-book-requires
-    returns-3
-    totals-at-requires
-    is-totals-requires
-    returns-4
-    weighing-at-requires
-    is-weighing-requires
-    returns-5
-    waiting-at-requires
-    write-fits-requires
-    returns-6
-    has-points-requires
-    stability-at-requires
-    setpoints-at-requires
-    sequence-at-requires
-    is-rest-requires
-    returns-7)
+    returns-then-g-ne-GIVEN_LENGTH
+    is_image-requires
+    returns-then-not-is_image
+    book_at-book-requires
+    is_book-requires
+    returns-then-not-is_book
+    totals_at-totals-requires
+    is_totals-requires
+    returns-then-not-is_totals
+    weighing_at-weighing-requires
+    is_weighing-requires
+    returns-then-not-is_weighing
+    waiting_at-waiting-requires
+    write_fits-requires
+    returns-then-not-write_fits
+    has_points-waits-requires
+    stability_at-stability-requires
+    setpoints_at-setpoints-requires
+    sequence_at-sequence-requires
+    is_rest-requires
+    returns)

@@ -9,32 +9,32 @@ use Rattle.images.specs.Possible.{sequence_fits, together_fits, rest_possible}
 use Rattle.images.proofs.possible.is_rest.Statement.{statement}
 use Rattle.images.proofs.possible.is_rest.Tie as tie
 
-given-mode-requires : tie.Need-given_mode-mode-requires
-given-mode-requires c κs = search rules
+given_mode-mode-requires : tie.Need-given_mode-mode-requires
+given_mode-mode-requires c κs = search rules
 
-stage-number-requires : tie.Need-stage_number-n-requires
-stage-number-requires c κs = search rules
+stage_number-n-requires : tie.Need-stage_number-n-requires
+stage_number-n-requires c κs = search rules
 
-stage-timer-requires : tie.Need-stage_timer-t-requires
-stage-timer-requires c κs = search rules
+stage_timer-t-requires : tie.Need-stage_timer-t-requires
+stage_timer-t-requires c κs = search rules
 
-error-number-requires : tie.Need-error_number-e-requires
-error-number-requires c κs = search rules
+error_number-e-requires : tie.Need-error_number-e-requires
+error_number-e-requires c κs = search rules
 
-judgement-number-requires : tie.Need-judgement_number-j-requires
-judgement-number-requires c κs = search rules
+judgement_number-j-requires : tie.Need-judgement_number-j-requires
+judgement_number-j-requires c κs = search rules
 
-is-stability-requires : tie.Need-is_stability-requires
-is-stability-requires c κs = search rules
+is_stability-requires : tie.Need-is_stability-requires
+is_stability-requires c κs = search rules
 
-setpoints-fit-requires : tie.Need-setpoints_fit-requires
-setpoints-fit-requires c κs = search rules
+setpoints_fit-requires : tie.Need-setpoints_fit-requires
+setpoints_fit-requires c κs = search rules
 
-is-sequence-requires : tie.Need-is_sequence-requires
-is-sequence-requires c κs = search rules
+is_sequence-requires : tie.Need-is_sequence-requires
+is_sequence-requires c κs = search rules
 
-is-together-requires : tie.Need-is_together-requires
-is-together-requires c κs = search rules
+is_together-requires : tie.Need-is_together-requires
+is_together-requires c κs = search rules
 
 returns : tie.Need-returns
 unfolding rest_possible
@@ -55,13 +55,13 @@ pub is_rest_spec : {M : Type 1} → statement M
 is_rest_spec =
     tie.close
     (tie.spec
-    given-mode-requires
-    stage-number-requires
-    stage-timer-requires
-    error-number-requires
-    judgement-number-requires
-    is-stability-requires
-    setpoints-fit-requires
-    is-sequence-requires
-    is-together-requires
+    given_mode-mode-requires
+    stage_number-n-requires
+    stage_timer-t-requires
+    error_number-e-requires
+    judgement_number-j-requires
+    is_stability-requires
+    setpoints_fit-requires
+    is_sequence-requires
+    is_together-requires
     returns)

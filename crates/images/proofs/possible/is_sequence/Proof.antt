@@ -25,17 +25,17 @@ normal m = go (eq_z m (pos 1))
     go true = refl
     go false = refl
 
-time-of-requires : tie.Need-time_of-requires
-time-of-requires c κs = search rules
+time_of-requires : tie.Need-time_of-requires
+time_of-requires c κs = search rules
 
-at-least-one-requires : tie.Need-at_least_one-requires
-at-least-one-requires c κs = search rules
+at_least_one-requires : tie.Need-at_least_one-requires
+at_least_one-requires c κs = search rules
 
-clock-limit-requires : tie.Need-clock_limit-requires
-clock-limit-requires c κs = search rules
+clock_limit-requires : tie.Need-clock_limit-requires
+clock_limit-requires c κs = search rules
 
-i32-at-requires : tie.Need-i32_at-requires
-i32-at-requires c κs = search rules
+i32_at-requires : tie.Need-i32_at-requires
+i32_at-requires c κs = search rules
 
 returns : tie.Need-returns
 unfolding sequence_fits settings_of given_at get_all
@@ -56,4 +56,4 @@ returns c =
 pub is_sequence_spec : {M : Type 1} → statement M
 is_sequence_spec =
     tie.close
-    (tie.spec time-of-requires at-least-one-requires clock-limit-requires i32-at-requires returns)
+    (tie.spec time_of-requires at_least_one-requires clock_limit-requires i32_at-requires returns)

@@ -7,8 +7,8 @@ use Rattle.images.specs.Possible.{stability_possible}
 use Rattle.images.proofs.possible.is_stability.Statement.{statement}
 use Rattle.images.proofs.possible.is_stability.Tie as tie
 
-cast-result : tie.Need-overflow_cast-result
-cast-result c = search rules
+overflow_cast-result : tie.Need-overflow_cast-result
+overflow_cast-result c = search rules
 
 given-requires : tie.Need-given-requires
 given-requires c κs = search rules
@@ -18,4 +18,4 @@ unfolding stability_possible settings_of given_at get_all
 returns c = simp c.before.before.given.ensures
 
 pub is_stability_spec : {M : Type 1} → statement M
-is_stability_spec = tie.close (tie.spec cast-result given-requires returns)
+is_stability_spec = tie.close (tie.spec overflow_cast-result given-requires returns)

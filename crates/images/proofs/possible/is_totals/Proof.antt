@@ -4,18 +4,18 @@ use Rattle.images.specs.Possible.{totals_possible}
 use Rattle.images.proofs.possible.is_totals.Statement.{statement}
 use Rattle.images.proofs.possible.is_totals.Tie as tie
 
-back-weight-requires : tie.Need-back_weight-requires
-back-weight-requires c κs = search rules
+back_weight-requires : tie.Need-back_weight-requires
+back_weight-requires c κs = search rules
 
-back-tag-requires : tie.Need-back_tag-requires
-back-tag-requires c κs = search rules
+back_tag-requires : tie.Need-back_tag-requires
+back_tag-requires c κs = search rules
 
-cast-result : tie.Need-overflow_cast-result
-cast-result c = search rules
+overflow_cast-result : tie.Need-overflow_cast-result
+overflow_cast-result c = search rules
 
 returns : tie.Need-returns
 unfolding totals_possible
 returns c = simp (c.before.back_tag.ensures, c.before.before.before.back_weight.ensures)
 
 pub is_totals_spec : {M : Type 1} → statement M
-is_totals_spec = tie.close (tie.spec back-weight-requires back-tag-requires cast-result returns)
+is_totals_spec = tie.close (tie.spec back_weight-requires back_tag-requires overflow_cast-result returns)

@@ -32,29 +32,29 @@ fields s = record { zero = search sfits_of; tracked = search sfits_of; tare = se
 product : (a b : ℕ) → a < 2 ^ 32 → b < 2 ^ 32 → Fits w64 (a * b)
 product a b h k = fits_of (N.lt_of_le_of_lt (N.mul-le-mul {n₂ = 4294967295} {m₂ = 4294967295} (omega (arith, h)) (omega (arith, k))) (lit< tt))
 
-given-requires : tie.Need-given-capacity-requires
+given-capacity-requires : tie.Need-given-capacity-requires
+given-capacity-requires c κs = search rules
+
+overflow_cast-capacity : tie.Need-overflow_cast-capacity
+overflow_cast-capacity c = search rules
+
+given-requires : tie.Need-given-requires
 given-requires c κs = search rules
 
-cast-capacity : tie.Need-overflow_cast-capacity
-cast-capacity c = search rules
+overflow_cast-zeroes : tie.Need-overflow_cast-zeroes
+overflow_cast-zeroes c = search rules
 
-given-requires-2 : tie.Need-given-requires
+overflow_mul-zeroes : tie.Need-overflow_mul-zeroes
+overflow_mul-zeroes c = product c.before.given-capacity.result c.given.result c.before.given-capacity.type-inv c.given.type-inv
+
+given-requires-2 : tie.Need-given-requires-2
 given-requires-2 c κs = search rules
 
-cast-zeroes : tie.Need-overflow_cast-zeroes
-cast-zeroes c = search rules
+overflow_cast-tares : tie.Need-overflow_cast-tares
+overflow_cast-tares c = search rules
 
-mul-zeroes : tie.Need-overflow_mul-zeroes
-mul-zeroes c = product c.before.given-capacity.result c.given.result c.before.given-capacity.type-inv c.given.type-inv
-
-given-requires-3 : tie.Need-given-requires-2
-given-requires-3 c κs = search rules
-
-cast-tares : tie.Need-overflow_cast-tares
-cast-tares c = search rules
-
-mul-tares : tie.Need-overflow_mul-tares
-mul-tares c = product c.before.before.given-capacity.result c.given-2.result c.before.before.given-capacity.type-inv c.given-2.type-inv
+overflow_mul-tares : tie.Need-overflow_mul-tares
+overflow_mul-tares c = product c.before.before.given-capacity.result c.given-2.result c.before.before.given-capacity.type-inv c.given-2.type-inv
 
 wide-requires : tie.Need-wide-requires
 wide-requires c κs = search rules
@@ -71,17 +71,17 @@ magnitude-requires-2 c κs = search rules
 size-requires : tie.Need-size-requires
 size-requires c κs = search rules
 
-given-requires-4 : tie.Need-given-requires-3
+given-requires-3 : tie.Need-given-requires-3
+given-requires-3 c κs = search rules
+
+overflow_cast-result : tie.Need-overflow_cast-result
+overflow_cast-result c = search rules
+
+given-requires-4 : tie.Need-given-requires-4
 given-requires-4 c κs = search rules
 
-cast-result : tie.Need-overflow_cast-result
-cast-result c = search rules
-
-given-requires-5 : tie.Need-given-requires-4
-given-requires-5 c κs = search rules
-
-at-least-one-requires : tie.Need-at_least_one-requires
-at-least-one-requires c κs = search rules
+at_least_one-requires : tie.Need-at_least_one-requires
+at_least_one-requires c κs = search rules
 
 wide-requires-2 : tie.Need-wide-requires-2
 wide-requires-2 c κs = search rules
@@ -89,8 +89,8 @@ wide-requires-2 c κs = search rules
 magnitude-requires-3 : tie.Need-magnitude-requires-3
 magnitude-requires-3 c κs = search rules
 
-is-tracking-requires : tie.Need-is_tracking-requires
-is-tracking-requires c κs = search rules
+is_tracking-requires : tie.Need-is_tracking-requires
+is_tracking-requires c κs = search rules
 
 returns : tie.Need-returns
 unfolding weighing_possible settings_of given_at get_all
@@ -119,24 +119,24 @@ pub is_weighing_spec : {M : Type 1} → statement M
 is_weighing_spec =
     tie.close
     (tie.spec
+    given-capacity-requires
+    overflow_cast-capacity
     given-requires
-    cast-capacity
+    overflow_cast-zeroes
+    overflow_mul-zeroes
     given-requires-2
-    cast-zeroes
-    mul-zeroes
-    given-requires-3
-    cast-tares
-    mul-tares
+    overflow_cast-tares
+    overflow_mul-tares
     wide-requires
     magnitude-requires
     difference-requires
     magnitude-requires-2
     size-requires
+    given-requires-3
+    overflow_cast-result
     given-requires-4
-    cast-result
-    given-requires-5
-    at-least-one-requires
+    at_least_one-requires
     wide-requires-2
     magnitude-requires-3
-    is-tracking-requires
+    is_tracking-requires
     returns)

@@ -19,11 +19,11 @@ wide-requires c κs = search rules
 magnitude-requires : tie.Need-magnitude-requires
 magnitude-requires c κs = search rules
 
-cast-result : tie.Need-overflow_cast-result
-cast-result c = fits_of (omega (arith, sized c, abs_fits w32 c.before.before.ranges.x))
+overflow_cast-result : tie.Need-overflow_cast-result
+overflow_cast-result c = fits_of (omega (arith, sized c, abs_fits w32 c.before.before.ranges.x))
 
 returns : tie.Need-returns
 returns c = sized c
 
 pub size_spec : {M : Type 1} → statement M
-size_spec = tie.close (tie.spec wide-requires magnitude-requires cast-result returns)
+size_spec = tie.close (tie.spec wide-requires magnitude-requires overflow_cast-result returns)

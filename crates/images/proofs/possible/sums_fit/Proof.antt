@@ -17,41 +17,41 @@ refilled c = simp (c.magnitude-r.ensures, to_z-of_z c.before.ranges.refilled)
 used : (c : tie.After-magnitude-u) → c.magnitude-u.result ≡ nat_abs c.before.before.before.args.used
 used c = simp (c.magnitude-u.ensures, to_z-of_z c.before.before.before.ranges.used)
 
-magnitude-requires : tie.Need-magnitude-r-requires
-magnitude-requires c κs = search rules
+magnitude-r-requires : tie.Need-magnitude-r-requires
+magnitude-r-requires c κs = search rules
 
-returns : tie.Need-returns-then-r-gt-SUM_ROOM
-returns c =
+returns-then-r-gt-SUM_ROOM : tie.Need-returns-then-r-gt-SUM_ROOM
+returns-then-r-gt-SUM_ROOM c =
     let a = c.before.before.args in
     let large : rise_limit * a.ticks < nat_abs a.refilled + nat_abs a.used = omega (arith, c.if-r-gt-SUM_ROOM.true, refilled c.before, c.before.before.ranges.ticks) in
     sym (lt-leb _ _ large)
 
-magnitude-requires-2 : tie.Need-magnitude-u-requires
-magnitude-requires-2 c κs = search rules
+magnitude-u-requires : tie.Need-magnitude-u-requires
+magnitude-u-requires c κs = search rules
 
-returns-2 : tie.Need-returns-then-u-gt-SUM_ROOM
-returns-2 c =
+returns-then-u-gt-SUM_ROOM : tie.Need-returns-then-u-gt-SUM_ROOM
+returns-then-u-gt-SUM_ROOM c =
     let a = c.before.before.before.before.args in
     let large : rise_limit * a.ticks < nat_abs a.refilled + nat_abs a.used = omega (arith, c.if-u-gt-SUM_ROOM.true, used c.before, c.before.before.before.before.ranges.ticks) in
     sym (lt-leb _ _ large)
 
-add-result : tie.Need-overflow_add-result
-add-result c = search rules
+overflow_add-result : tie.Need-overflow_add-result
+overflow_add-result c = search rules
 
-mul-result : tie.Need-overflow_mul-result
-mul-result c = search rules
+overflow_mul-result : tie.Need-overflow_mul-result
+overflow_mul-result c = search rules
 
-returns-3 : tie.Need-returns
-returns-3 c = λ i. leb (refilled c.before.before.before i + used c.before i) (rise_limit * c.before.before.before.before.args.ticks)
+returns : tie.Need-returns
+returns c = λ i. leb (refilled c.before.before.before i + used c.before i) (rise_limit * c.before.before.before.before.args.ticks)
 
 pub sums_fit_spec : {M : Type 1} → statement M
 sums_fit_spec =
     tie.close
     (tie.spec
-    magnitude-requires
-    returns
-    magnitude-requires-2
-    returns-2
-    add-result
-    mul-result
-    returns-3)
+    magnitude-r-requires
+    returns-then-r-gt-SUM_ROOM
+    magnitude-u-requires
+    returns-then-u-gt-SUM_ROOM
+    overflow_add-result
+    overflow_mul-result
+    returns)

@@ -16,17 +16,17 @@ same c =
     let l = c.before.before.before.args.s.now in
     ap (same_bytes (image_of (state_at l))) (sym (filled_state l c.before.if-s-ne-STATE_LENGTH.false)) ∙ sym c.is_written.ensures
 
-returns : tie.Need-returns-then-s-ne-STATE_LENGTH
-returns c = bytes_length _ c.if-s-ne-STATE_LENGTH.true
+returns-then-s-ne-STATE_LENGTH : tie.Need-returns-then-s-ne-STATE_LENGTH
+returns-then-s-ne-STATE_LENGTH c = bytes_length _ c.if-s-ne-STATE_LENGTH.true
 
-is-written-requires : tie.Need-is_written-requires
-is-written-requires c κs = ap is_image c.if-s-ne-STATE_LENGTH.false
+is_written-requires : tie.Need-is_written-requires
+is_written-requires c κs = ap is_image c.if-s-ne-STATE_LENGTH.false
 
-returns-2 : tie.Need-returns-then-is_written
-returns-2 c = bytes_same _ c.before.before.if-s-ne-STATE_LENGTH.false (same c.before ∙ c.if-is_written.true)
+returns-then-is_written : tie.Need-returns-then-is_written
+returns-then-is_written c = bytes_same _ c.before.before.if-s-ne-STATE_LENGTH.false (same c.before ∙ c.if-is_written.true)
 
-returns-3 : tie.Need-returns
-returns-3 c = bytes_other _ c.before.before.if-s-ne-STATE_LENGTH.false (same c.before ∙ c.if-is_written.false)
+returns : tie.Need-returns
+returns c = bytes_other _ c.before.before.if-s-ne-STATE_LENGTH.false (same c.before ∙ c.if-is_written.false)
 
 pub bytes_refusal_spec : {M : Type 1} → statement M
-bytes_refusal_spec = tie.close (tie.spec returns is-written-requires returns-2 returns-3)
+bytes_refusal_spec = tie.close (tie.spec returns-then-s-ne-STATE_LENGTH is_written-requires returns-then-is_written returns)

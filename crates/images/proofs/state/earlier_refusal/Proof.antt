@@ -16,17 +16,17 @@ same c =
     let l = c.before.before.before.args.e.now in
     ap (same_bytes (image_of (state_at l))) (sym (filled_earlier l c.before.if-e-ne-EARLIER_LENGTH.false)) ∙ sym c.is_written.ensures
 
-returns : tie.Need-returns-then-e-ne-EARLIER_LENGTH
-returns c = earlier_length_lem _ c.if-e-ne-EARLIER_LENGTH.true
+returns-then-e-ne-EARLIER_LENGTH : tie.Need-returns-then-e-ne-EARLIER_LENGTH
+returns-then-e-ne-EARLIER_LENGTH c = earlier_length_lem _ c.if-e-ne-EARLIER_LENGTH.true
 
-is-written-requires : tie.Need-is_written-requires
-is-written-requires c κs = ap is_image c.if-e-ne-EARLIER_LENGTH.false
+is_written-requires : tie.Need-is_written-requires
+is_written-requires c κs = ap is_image c.if-e-ne-EARLIER_LENGTH.false
 
-returns-2 : tie.Need-returns-then-is_written
-returns-2 c = earlier_same _ c.before.before.if-e-ne-EARLIER_LENGTH.false (same c.before ∙ c.if-is_written.true)
+returns-then-is_written : tie.Need-returns-then-is_written
+returns-then-is_written c = earlier_same _ c.before.before.if-e-ne-EARLIER_LENGTH.false (same c.before ∙ c.if-is_written.true)
 
-returns-3 : tie.Need-returns
-returns-3 c = earlier_other _ c.before.before.if-e-ne-EARLIER_LENGTH.false (same c.before ∙ c.if-is_written.false)
+returns : tie.Need-returns
+returns c = earlier_other _ c.before.before.if-e-ne-EARLIER_LENGTH.false (same c.before ∙ c.if-is_written.false)
 
 pub earlier_refusal_spec : {M : Type 1} → statement M
-earlier_refusal_spec = tie.close (tie.spec returns is-written-requires returns-2 returns-3)
+earlier_refusal_spec = tie.close (tie.spec returns-then-e-ne-EARLIER_LENGTH is_written-requires returns-then-is_written returns)

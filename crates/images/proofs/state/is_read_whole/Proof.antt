@@ -7,77 +7,77 @@ use Rattle.images.proofs.Read.{whole}
 use Rattle.images.proofs.state.is_read_whole.Statement.{statement}
 use Rattle.images.proofs.state.is_read_whole.Tie as tie
 
-u8-at-requires : tie.Need-u8_at-requires
-u8-at-requires c κs = search rules
+u8_at-requires : tie.Need-u8_at-requires
+u8_at-requires c κs = search rules
 
-is-flag-requires : tie.Need-is_flag-requires
-is-flag-requires c κs = search rules
+is_flag-requires : tie.Need-is_flag-requires
+is_flag-requires c κs = search rules
 
-u8-at-requires-2 : tie.Need-u8_at-requires-2
-u8-at-requires-2 c κs = search rules
+u8_at-requires-2 : tie.Need-u8_at-requires-2
+u8_at-requires-2 c κs = search rules
 
-is-flag-requires-2 : tie.Need-is_flag-requires-2
-is-flag-requires-2 c κs = search rules
+is_flag-requires-2 : tie.Need-is_flag-requires-2
+is_flag-requires-2 c κs = search rules
 
-u8-at-requires-3 : tie.Need-u8_at-requires-3
-u8-at-requires-3 c κs = search rules
+u8_at-requires-3 : tie.Need-u8_at-requires-3
+u8_at-requires-3 c κs = search rules
 
-is-flag-requires-3 : tie.Need-is_flag-requires-3
-is-flag-requires-3 c κs = search rules
+is_flag-requires-3 : tie.Need-is_flag-requires-3
+is_flag-requires-3 c κs = search rules
 
-u8-at-requires-4 : tie.Need-u8_at-requires-4
-u8-at-requires-4 c κs = search rules
+u8_at-requires-4 : tie.Need-u8_at-requires-4
+u8_at-requires-4 c κs = search rules
 
-is-flag-requires-4 : tie.Need-is_flag-requires-4
-is-flag-requires-4 c κs = search rules
+is_flag-requires-4 : tie.Need-is_flag-requires-4
+is_flag-requires-4 c κs = search rules
 
-stage-number-requires : tie.Need-stage_number-requires
-stage-number-requires c κs = search rules
+stage_number-requires : tie.Need-stage_number-requires
+stage_number-requires c κs = search rules
 
-u8-at-requires-5 : tie.Need-u8_at-requires-5
-u8-at-requires-5 c κs = search rules
+u8_at-requires-5 : tie.Need-u8_at-requires-5
+u8_at-requires-5 c κs = search rules
 
-stage-timer-requires : tie.Need-stage_timer-requires
-stage-timer-requires c κs = search rules
+stage_timer-requires : tie.Need-stage_timer-requires
+stage_timer-requires c κs = search rules
 
-u16-at-requires : tie.Need-u16_at-requires
-u16-at-requires c κs = search rules
+u16_at-requires : tie.Need-u16_at-requires
+u16_at-requires c κs = search rules
 
-error-number-requires : tie.Need-error_number-requires
-error-number-requires c κs = search rules
+error_number-requires : tie.Need-error_number-requires
+error_number-requires c κs = search rules
 
-u8-at-requires-6 : tie.Need-u8_at-requires-6
-u8-at-requires-6 c κs = search rules
+u8_at-requires-6 : tie.Need-u8_at-requires-6
+u8_at-requires-6 c κs = search rules
 
-judgement-number-requires : tie.Need-judgement_number-requires
-judgement-number-requires c κs = search rules
+judgement_number-requires : tie.Need-judgement_number-requires
+judgement_number-requires c κs = search rules
 
-u8-at-requires-7 : tie.Need-u8_at-requires-7
-u8-at-requires-7 c κs = search rules
+u8_at-requires-7 : tie.Need-u8_at-requires-7
+u8_at-requires-7 c κs = search rules
 
-back-tag-requires : tie.Need-back_tag-requires
-back-tag-requires c κs = search rules
+back_tag-requires : tie.Need-back_tag-requires
+back_tag-requires c κs = search rules
 
-u8-at-requires-8 : tie.Need-u8_at-requires-8
-u8-at-requires-8 c κs = search rules
+u8_at-requires-8 : tie.Need-u8_at-requires-8
+u8_at-requires-8 c κs = search rules
 
-back-weight-requires : tie.Need-back_weight-requires
-back-weight-requires c κs = search rules
+back_weight-requires : tie.Need-back_weight-requires
+back_weight-requires c κs = search rules
 
-u64-at-requires : tie.Need-u64_at-requires
-u64-at-requires c κs = search rules
+u64_at-requires : tie.Need-u64_at-requires
+u64_at-requires c κs = search rules
 
-u8-at-requires-9 : tie.Need-u8_at-requires-9
-u8-at-requires-9 c κs = search rules
+u8_at-requires-9 : tie.Need-u8_at-requires-9
+u8_at-requires-9 c κs = search rules
 
-is-flag-requires-5 : tie.Need-is_flag-requires-5
-is-flag-requires-5 c κs = search rules
+is_flag-requires-5 : tie.Need-is_flag-requires-5
+is_flag-requires-5 c κs = search rules
 
-u8-at-requires-10 : tie.Need-u8_at-requires-10
-u8-at-requires-10 c κs = search rules
+u8_at-requires-10 : tie.Need-u8_at-requires-10
+u8_at-requires-10 c κs = search rules
 
-are-zero-requires : tie.Need-are_zero-requires
-are-zero-requires c κs = search rules
+are_zero-requires : tie.Need-are_zero-requires
+are_zero-requires c κs = search rules
 
 returns : tie.Need-returns
 returns c =
@@ -125,28 +125,28 @@ pub is_read_whole_spec : {M : Type 1} → statement M
 is_read_whole_spec =
     tie.close
     (tie.spec
-    u8-at-requires
-    is-flag-requires
-    u8-at-requires-2
-    is-flag-requires-2
-    u8-at-requires-3
-    is-flag-requires-3
-    u8-at-requires-4
-    is-flag-requires-4
-    stage-number-requires
-    u8-at-requires-5
-    stage-timer-requires
-    u16-at-requires
-    error-number-requires
-    u8-at-requires-6
-    judgement-number-requires
-    u8-at-requires-7
-    back-tag-requires
-    u8-at-requires-8
-    back-weight-requires
-    u64-at-requires
-    u8-at-requires-9
-    is-flag-requires-5
-    u8-at-requires-10
-    are-zero-requires
+    u8_at-requires
+    is_flag-requires
+    u8_at-requires-2
+    is_flag-requires-2
+    u8_at-requires-3
+    is_flag-requires-3
+    u8_at-requires-4
+    is_flag-requires-4
+    stage_number-requires
+    u8_at-requires-5
+    stage_timer-requires
+    u16_at-requires
+    error_number-requires
+    u8_at-requires-6
+    judgement_number-requires
+    u8_at-requires-7
+    back_tag-requires
+    u8_at-requires-8
+    back_weight-requires
+    u64_at-requires
+    u8_at-requires-9
+    is_flag-requires-5
+    u8_at-requires-10
+    are_zero-requires
     returns)

@@ -6,26 +6,26 @@ use Rattle.images.proofs.Read.{unused_state}
 use Rattle.images.proofs.state.is_unused_zero.Statement.{statement}
 use Rattle.images.proofs.state.is_unused_zero.Tie as tie
 
-are-zero-requires : tie.Need-are_zero-requires
-are-zero-requires c κs = search rules
+are_zero-requires : tie.Need-are_zero-requires
+are_zero-requires c κs = search rules
 
-are-zero-requires-2 : tie.Need-are_zero-requires-2
-are-zero-requires-2 c κs = search rules
+are_zero-requires-2 : tie.Need-are_zero-requires-2
+are_zero-requires-2 c κs = search rules
 
-are-zero-requires-3 : tie.Need-are_zero-requires-3
-are-zero-requires-3 c κs = search rules
+are_zero-requires-3 : tie.Need-are_zero-requires-3
+are_zero-requires-3 c κs = search rules
 
-are-zero-requires-4 : tie.Need-are_zero-requires-4
-are-zero-requires-4 c κs = search rules
+are_zero-requires-4 : tie.Need-are_zero-requires-4
+are_zero-requires-4 c κs = search rules
 
-are-zero-requires-5 : tie.Need-are_zero-requires-5
-are-zero-requires-5 c κs = search rules
+are_zero-requires-5 : tie.Need-are_zero-requires-5
+are_zero-requires-5 c κs = search rules
 
-are-zero-requires-6 : tie.Need-are_zero-requires-6
-are-zero-requires-6 c κs = search rules
+are_zero-requires-6 : tie.Need-are_zero-requires-6
+are_zero-requires-6 c κs = search rules
 
-are-zero-requires-7 : tie.Need-are_zero-requires-7
-are-zero-requires-7 c κs = search rules
+are_zero-requires-7 : tie.Need-are_zero-requires-7
+are_zero-requires-7 c κs = search rules
 
 returns : tie.Need-returns
 returns c =
@@ -42,11 +42,11 @@ pub is_unused_zero_spec : {M : Type 1} → statement M
 is_unused_zero_spec =
     tie.close
     (tie.spec
-    are-zero-requires
-    are-zero-requires-2
-    are-zero-requires-3
-    are-zero-requires-4
-    are-zero-requires-5
-    are-zero-requires-6
-    are-zero-requires-7
+    are_zero-requires
+    are_zero-requires-2
+    are_zero-requires-3
+    are_zero-requires-4
+    are_zero-requires-5
+    are_zero-requires-6
+    are_zero-requires-7
     returns)

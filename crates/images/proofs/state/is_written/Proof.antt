@@ -22,33 +22,33 @@ same : (c : tie.After-is_read_whole) →
     same_bytes (image_of (state_at l)) (filled l) ≡ same_bytes (state_numbers (state_at l)) (get_all state_rows l) && zeros_in (gaps 0 state_length state_rows) l
 same c = written (start c).args.s.now (λ i. (c.before.before.before.before.shared_slice_known-1.given i).fits) (start c).requires
 
-returns : tie.Need-returns-then-s-lt-EARLIER_LENGTH
-returns c = let n = long c.before.before.args.s.now c.before.before.requires in absurd (omega (arith, n, c.if-s-lt-EARLIER_LENGTH.true))
+returns-then-s-lt-EARLIER_LENGTH : tie.Need-returns-then-s-lt-EARLIER_LENGTH
+returns-then-s-lt-EARLIER_LENGTH c = let n = long c.before.before.args.s.now c.before.before.requires in absurd (omega (arith, n, c.if-s-lt-EARLIER_LENGTH.true))
 
-sequence-at-requires : tie.Need-sequence_at-sequence-requires
-sequence-at-requires c κs = search rules
+sequence_at-sequence-requires : tie.Need-sequence_at-sequence-requires
+sequence_at-sequence-requires c κs = search rules
 
-totals-at-requires : tie.Need-totals_at-totals-requires
-totals-at-requires c κs = search rules
+totals_at-totals-requires : tie.Need-totals_at-totals-requires
+totals_at-totals-requires c κs = search rules
 
-is-read-whole-requires : tie.Need-is_read_whole-requires
-is-read-whole-requires c κs =
+is_read_whole-requires : tie.Need-is_read_whole-requires
+is_read_whole-requires c κs =
     let l = c.before.before.before.before.args.s.now in
     let k = c.before.before.before.before.requires in (
       part_here l k (λ (t : State). t.sequence) c.before.sequence_at-sequence.ensures,
       part_here l k (λ (t : State). t.totals) c.totals_at-totals.ensures,
     )
 
-returns-2 : tie.Need-returns-then-not-is_read_whole
-returns-2 c =
+returns-then-not-is_read_whole : tie.Need-returns-then-not-is_read_whole
+returns-then-not-is_read_whole c =
     let r = c.before in
     sym (same r ∙ (λ i. (sym r.is_read_whole.ensures ∙ not-true _ c.if-not-is_read_whole.true) i && zeros_in (gaps 0 state_length state_rows) (start r).args.s.now))
 
-is-unused-zero-requires : tie.Need-is_unused_zero-requires
-is-unused-zero-requires c κs = search rules
+is_unused_zero-requires : tie.Need-is_unused_zero-requires
+is_unused_zero-requires c κs = search rules
 
-returns-3 : tie.Need-returns
-returns-3 c =
+returns : tie.Need-returns
+returns c =
     let r = c.before.before in
     sym (same r ∙ (λ i. (sym r.is_read_whole.ensures ∙ not-false _ c.before.if-not-is_read_whole.false) i && sym c.is_unused_zero.ensures i))
 
@@ -56,10 +56,10 @@ pub is_written_spec : {M : Type 1} → statement M
 is_written_spec =
     tie.close
     (tie.spec
-    returns
-    sequence-at-requires
-    totals-at-requires
-    is-read-whole-requires
-    returns-2
-    is-unused-zero-requires
-    returns-3)
+    returns-then-s-lt-EARLIER_LENGTH
+    sequence_at-sequence-requires
+    totals_at-totals-requires
+    is_read_whole-requires
+    returns-then-not-is_read_whole
+    is_unused_zero-requires
+    returns)

@@ -11,10 +11,10 @@ use Rattle.logs.proofs.RunLaws.{digit_within, run_goes, run_stops}
 use Rattle.logs.proofs.numerals.digit_run.Statement.{statement}
 use Rattle.logs.proofs.numerals.digit_run.Tie as tie
 
-abbrev invariant_loop : tie.invariant_loop
+abbrev invariant_loop : tie.invariant-loop-i
 invariant_loop part i₀ i = i + digit_run (drop i part) ≡ digit_run part
 
-abbrev decreases_loop : tie.decreases_loop
+abbrev decreases_loop : tie.decreases-loop-i
 decreases_loop part i₀ i = length part - i
 
 -- in a turn: the byte that was tested
@@ -35,23 +35,23 @@ module _ (c : tie.In-loop-i invariant_loop decreases_loop) where
   within : (L c.before).loop-i.i < length (S c.before)
   within = digit_within (S c.before) (L c.before).loop-i.i digit
 
-loop-holds : tie.Need-loop-i-init invariant_loop decreases_loop
-loop-holds c = omega arith
+loop-i-init : tie.Need-loop-i-init invariant_loop decreases_loop
+loop-i-init c = omega arith
 
-byte-at-requires : tie.Need-byte_at-requires invariant_loop decreases_loop
-byte-at-requires c κs = tt
+byte_at-requires : tie.Need-byte_at-requires invariant_loop decreases_loop
+byte_at-requires c κs = tt
 
-is-digit-requires : tie.Need-is_digit-requires invariant_loop decreases_loop
-is-digit-requires c κs = tt
+is_digit-requires : tie.Need-is_digit-requires invariant_loop decreases_loop
+is_digit-requires c κs = tt
 
-add-i : tie.Need-overflow_add-i invariant_loop decreases_loop
-add-i c = omega (arith, within c)
+overflow_add-i : tie.Need-overflow_add-i invariant_loop decreases_loop
+overflow_add-i c = omega (arith, within c)
 
-loop-less : tie.Need-loop-i-smaller invariant_loop decreases_loop
-loop-less c = omega (arith, within c)
+loop-i-smaller : tie.Need-loop-i-smaller invariant_loop decreases_loop
+loop-i-smaller c = omega (arith, within c)
 
-loop-again : tie.Need-loop-i-preserved invariant_loop decreases_loop
-loop-again c = omega (arith, (L c.before).loop-i.inv, run_goes (S c.before) (L c.before).loop-i.i (digit c))
+loop-i-preserved : tie.Need-loop-i-preserved invariant_loop decreases_loop
+loop-i-preserved c = omega (arith, (L c.before).loop-i.inv, run_goes (S c.before) (L c.before).loop-i.i (digit c))
 
 returns : tie.Need-returns invariant_loop decreases_loop
 returns c =
@@ -64,10 +64,10 @@ digit_run_spec =
     (tie.spec
     invariant_loop
     decreases_loop
-    loop-holds
-    byte-at-requires
-    is-digit-requires
-    add-i
-    loop-less
-    loop-again
+    loop-i-init
+    byte_at-requires
+    is_digit-requires
+    overflow_add-i
+    loop-i-smaller
+    loop-i-preserved
     returns)

@@ -45,47 +45,47 @@ module _ (c : tie.After-digit_run-n) where
   few : N ≤ digit_run D
   few = omega (arith, c.digit_run-n.ensures)
 
-byte-at-requires : tie.Need-byte_at-minus-requires
-byte-at-requires c κs = tt
+byte_at-minus-requires : tie.Need-byte_at-minus-requires
+byte_at-minus-requires c κs = tt
 
-digits-from-requires : tie.Need-digits_from-from-requires
-digits-from-requires c κs h =
+digits_from-from-requires : tie.Need-digits_from-from-requires
+digits_from-from-requires c κs h =
     let s = c.before.before.args in
     omega (arith, minus_within s.line.now s.at (ap (λ (b : ℕ). eqb b 45) (sym c.byte_at-minus.ensures) ∙ h))
 
-part-requires : tie.Need-part-digits-requires
-part-requires c κs = tt
+part-digits-requires : tie.Need-part-digits-requires
+part-digits-requires c κs = tt
 
-digit-run-requires : tie.Need-digit_run-n-requires
-digit-run-requires c κs = tt
+digit_run-n-requires : tie.Need-digit_run-n-requires
+digit_run-n-requires c κs = tt
 
-value-of-requires : tie.Need-value_of-requires
-value-of-requires c κs = (omega arith, few c.before.before)
+value_of-requires : tie.Need-value_of-requires
+value_of-requires c κs = (omega arith, few c.before.before)
 
 signed-requires : tie.Need-signed-requires
 signed-requires c κs =
     let g = c.before.before.before in
     omega (arith, c.value_of_lem.ensures, value_limit (D g) (N g) 9 (few g) (omega arith))
 
-add-t12 : tie.Need-overflow_add-result
-add-t12 c =
+overflow_add-result : tie.Need-overflow_add-result
+overflow_add-result c =
     let g = c.before.before.before.before in
     omega (arith, few g, run_length (D g), ap length (digits g), length-drop (F g) (L g))
 
-returns : tie.Need-returns-in-1-to-9
-returns c =
+returns-in-1-to-9 : tie.Need-returns-in-1-to-9
+returns-in-1-to-9 c =
     let g = c.before.before.before.before in
     ap (λ (z : ℤ). Number z (F g + N g)) (to_z-of_z (sfits_of {w = w32} c.signed.type-inv))
     ∙ number_read (L g) (S g).args.at _ _ _ (begins g) (digits g) g.digit_run-n.ensures _
     (c.signed.ensures ∙ simp (c.before.value_of_lem.ensures, g.before.before.before.byte_at-minus.ensures)) (omega arith) (omega arith)
 
-returns-2 : tie.Need-returns-in_default
-returns-2 c =
+returns-in_default : tie.Need-returns-in_default
+returns-in_default c =
     let g = c.before in
     no_digit (L g) (S g).args.at _ _ _ (begins g) (digits g) g.digit_run-n.ensures (omega arith)
 
-returns-3 : tie.Need-returns-in_default-2
-returns-3 c =
+returns-in_default-2 : tie.Need-returns-in_default-2
+returns-in_default-2 c =
     let g = c.before.before in
     many_digits (L g) (S g).args.at _ _ _ (begins g) (digits g) g.digit_run-n.ensures (omega arith)
 
@@ -93,13 +93,13 @@ pub number_at_spec : {M : Type 1} → statement M
 number_at_spec =
     tie.close
     (tie.spec
-    byte-at-requires
-    digits-from-requires
-    part-requires
-    digit-run-requires
-    value-of-requires
+    byte_at-minus-requires
+    digits_from-from-requires
+    part-digits-requires
+    digit_run-n-requires
+    value_of-requires
     signed-requires
-    add-t12
-    returns
-    returns-2
-    returns-3)
+    overflow_add-result
+    returns-in-1-to-9
+    returns-in_default
+    returns-in_default-2)

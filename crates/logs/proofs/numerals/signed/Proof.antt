@@ -21,19 +21,19 @@ minus_fits n h = sfits_of (simp ints (omega linear))
 none : Read w32 0 (pos 0)
 none = nat (lit< tt)
 
-cast-n : tie.Need-overflow_cast-n
-cast-n c = sfits_of (small c)
+overflow_cast-n : tie.Need-overflow_cast-n
+overflow_cast-n c = sfits_of (small c)
 
-sub-result : tie.Need-overflow_sub-result
-sub-result c = sub_need none (nat (small c.before)) (minus_fits c.before.args.v (small c.before))
+overflow_sub-result : tie.Need-overflow_sub-result
+overflow_sub-result c = sub_need none (nat (small c.before)) (minus_fits c.before.args.v (small c.before))
 
-returns : tie.Need-returns-then-minus
-returns c =
+returns-then-minus : tie.Need-returns-then-minus
+returns-then-minus c =
     let s = c.before in
     (sub none (nat (small s)) (minus_fits s.args.v (small s))).read ∙ +ℤ_idl (neg_ℤ (pos s.args.v)) ∙ simp c.if-minus.true
 
-returns-2 : tie.Need-returns-else-minus
-returns-2 c = (nat {w = w32} (small c.before)).read ∙ simp c.if-minus.false
+returns-else-minus : tie.Need-returns-else-minus
+returns-else-minus c = (nat {w = w32} (small c.before)).read ∙ simp c.if-minus.false
 
 pub signed_spec : {M : Type 1} → statement M
-signed_spec = tie.close (tie.spec cast-n sub-result returns returns-2)
+signed_spec = tie.close (tie.spec overflow_cast-n overflow_sub-result returns-then-minus returns-else-minus)

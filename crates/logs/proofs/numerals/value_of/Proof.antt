@@ -9,10 +9,10 @@ use Rattle.logs.proofs.RunLaws.{run_length, byte_range, value_more, value_limit}
 use Rattle.logs.proofs.numerals.value_of.Statement.{statement}
 use Rattle.logs.proofs.numerals.value_of.Tie as tie
 
-abbrev invariant_loop : tie.invariant_loop
+abbrev invariant_loop : tie.invariant-loop-i
 invariant_loop part n v₀ i₀ v i = (i ≤ n) × (v ≡ value_from 0 (take i part))
 
-abbrev decreases_loop : tie.decreases_loop
+abbrev decreases_loop : tie.decreases-loop-i
 decreases_loop part n v₀ i₀ v i = n - i
 
 -- in a turn: the next byte is a digit, and the number has eight digits at most
@@ -36,32 +36,32 @@ module _ (c : tie.In-loop-i invariant_loop decreases_loop) where
 range : (c : tie.After-byte_at invariant_loop decreases_loop) → (48 ≤ c.byte_at.result) × (c.byte_at.result ≤ 57)
 range c = rw c.byte_at.ensures (byte_range (S c.before) (I c.before) (left c.before))
 
-loop-holds : tie.Need-loop-i-init invariant_loop decreases_loop
-loop-holds c = (zero-le, refl)
+loop-i-init : tie.Need-loop-i-init invariant_loop decreases_loop
+loop-i-init c = (zero-le, refl)
 
-mul-v : tie.Need-overflow_mul-v invariant_loop decreases_loop
-mul-v c = omega (arith, small c)
+overflow_mul-v : tie.Need-overflow_mul-v invariant_loop decreases_loop
+overflow_mul-v c = omega (arith, small c)
 
-byte-at-requires : tie.Need-byte_at-requires invariant_loop decreases_loop
-byte-at-requires c κs = tt
+byte_at-requires : tie.Need-byte_at-requires invariant_loop decreases_loop
+byte_at-requires c κs = tt
 
-sub-v : tie.Need-overflow_sub-v invariant_loop decreases_loop
-sub-v c = (range c).0
+overflow_sub-v : tie.Need-overflow_sub-v invariant_loop decreases_loop
+overflow_sub-v c = (range c).0
 
-cast-v : tie.Need-overflow_cast-v invariant_loop decreases_loop
-cast-v c = omega (arith, range c)
+overflow_cast-v : tie.Need-overflow_cast-v invariant_loop decreases_loop
+overflow_cast-v c = omega (arith, range c)
 
-add-v : tie.Need-overflow_add-v invariant_loop decreases_loop
-add-v c = omega (arith, small c.before, range c)
+overflow_add-v : tie.Need-overflow_add-v invariant_loop decreases_loop
+overflow_add-v c = omega (arith, small c.before, range c)
 
-add-i : tie.Need-overflow_add-i invariant_loop decreases_loop
-add-i c = omega (arith, c.before.loop-i-test.true)
+overflow_add-i : tie.Need-overflow_add-i invariant_loop decreases_loop
+overflow_add-i c = omega (arith, c.before.loop-i-test.true)
 
-loop-less : tie.Need-loop-i-smaller invariant_loop decreases_loop
-loop-less c = omega (arith, c.before.loop-i-test.true)
+loop-i-smaller : tie.Need-loop-i-smaller invariant_loop decreases_loop
+loop-i-smaller c = omega (arith, c.before.loop-i-test.true)
 
-loop-again : tie.Need-loop-i-preserved invariant_loop decreases_loop
-loop-again c =
+loop-i-preserved : tie.Need-loop-i-preserved invariant_loop decreases_loop
+loop-i-preserved c =
     let t = c.before in
     (omega (arith, t.loop-i-test.true), sym (value_more (S t) (I t) (omega (arith, left t, run_length (S t))) ∙ simp (← t.before.loop-i.invariant.1, ← c.byte_at.ensures)))
 
@@ -76,13 +76,13 @@ value_of_spec =
     (tie.spec
     invariant_loop
     decreases_loop
-    loop-holds
-    mul-v
-    byte-at-requires
-    sub-v
-    cast-v
-    add-v
-    add-i
-    loop-less
-    loop-again
+    loop-i-init
+    overflow_mul-v
+    byte_at-requires
+    overflow_sub-v
+    overflow_cast-v
+    overflow_add-v
+    overflow_add-i
+    loop-i-smaller
+    loop-i-preserved
     returns)

@@ -13,14 +13,14 @@ use Rattle.logs.proofs.TextLaws.{number_length, numbers_few, numbers_end, number
 use Rattle.logs.proofs.pairs.numbers_length.Statement.{statement}
 use Rattle.logs.proofs.pairs.numbers_length.Tie as tie
 
-abbrev invariant_loop : tie.invariant_loop
+abbrev invariant_loop : tie.invariant-loop-i
 invariant_loop lines amounts n₀ i₀ n i = n + length (number_lines (drop i (take lines amounts))) ≡ length (number_lines (take lines amounts))
 
-abbrev decreases_loop : tie.decreases_loop
+abbrev decreases_loop : tie.decreases-loop-i
 decreases_loop lines amounts n₀ i₀ n i = lines - i
 
-loop-holds : tie.Need-loop-i-init invariant_loop decreases_loop
-loop-holds c = omega arith
+loop-i-init : tie.Need-loop-i-init invariant_loop decreases_loop
+loop-i-init c = omega arith
 
 eight : (s : tie.Start invariant_loop decreases_loop) → length s.args.t1 ≡ 8
 eight s = search rules
@@ -45,35 +45,35 @@ module _ (c : tie.In-loop-i invariant_loop decreases_loop) where
   next : length (number_lines (drop L.loop-i.i (take S.args.lines S.args.t1))) ≡ cond A.minus 1 0 + length (decimal_text A.size) + 1 + length (number_lines (drop (L.loop-i.i + 1) (take S.args.lines S.args.t1)))
   next = omega (arith, numbers_more S.args.t1 L.loop-i.i S.args.lines (count_of 0) (rw (held S) c.loop-i-test.true) c.loop-i-test.true, number_length A)
 
-mul-a : tie.Need-offset_bounds-amounts-i invariant_loop decreases_loop
-mul-a c = omega (arith, c.loop-i-test.true, (S c).requires)
+offset_bounds-amounts-i : tie.Need-offset_bounds-amounts-i invariant_loop decreases_loop
+offset_bounds-amounts-i c = omega (arith, c.loop-i-test.true, (S c).requires)
 
-array-copy-out-a : tie.Need-bounds-amounts-i invariant_loop decreases_loop
-array-copy-out-a c = omega (arith, c.loop-i-test.true, (S c).requires)
+bounds-amounts-i : tie.Need-bounds-amounts-i invariant_loop decreases_loop
+bounds-amounts-i c = omega (arith, c.loop-i-test.true, (S c).requires)
 
-sign-length-requires : tie.Need-sign_length-requires invariant_loop decreases_loop
-sign-length-requires c κs = tt
+sign_length-requires : tie.Need-sign_length-requires invariant_loop decreases_loop
+sign_length-requires c κs = tt
 
-add-n : tie.Need-overflow_add-n invariant_loop decreases_loop
-add-n c = let t = c.before.before in omega (arith, (L t).loop-i.invariant, next t, short t, c.sign_length.ensures)
+overflow_add-n : tie.Need-overflow_add-n invariant_loop decreases_loop
+overflow_add-n c = let t = c.before.before in omega (arith, (L t).loop-i.invariant, next t, short t, c.sign_length.ensures)
 
-digit-count-requires : tie.Need-digit_count-requires invariant_loop decreases_loop
-digit-count-requires c κs = tt
+digit_count-requires : tie.Need-digit_count-requires invariant_loop decreases_loop
+digit_count-requires c κs = tt
 
-add-n-2 : tie.Need-overflow_add-n-in-loop-i invariant_loop decreases_loop
-add-n-2 c = let t = c.before.before.before in omega (arith, (L t).loop-i.invariant, next t, short t, c.before.sign_length.ensures, c.digit_count.ensures)
+overflow_add-n-in-loop-i : tie.Need-overflow_add-n-in-loop-i invariant_loop decreases_loop
+overflow_add-n-in-loop-i c = let t = c.before.before.before in omega (arith, (L t).loop-i.invariant, next t, short t, c.before.sign_length.ensures, c.digit_count.ensures)
 
-add-n-3 : tie.Need-overflow_add-n-in-loop-i-2 invariant_loop decreases_loop
-add-n-3 c = let t = c.before.before.before in omega (arith, (L t).loop-i.invariant, next t, short t, c.before.sign_length.ensures, c.digit_count.ensures)
+overflow_add-n-in-loop-i-2 : tie.Need-overflow_add-n-in-loop-i-2 invariant_loop decreases_loop
+overflow_add-n-in-loop-i-2 c = let t = c.before.before.before in omega (arith, (L t).loop-i.invariant, next t, short t, c.before.sign_length.ensures, c.digit_count.ensures)
 
-add-i : tie.Need-overflow_add-i invariant_loop decreases_loop
-add-i c = let t = c.before.before.before in omega (arith, t.loop-i-test.true, (S t).requires)
+overflow_add-i : tie.Need-overflow_add-i invariant_loop decreases_loop
+overflow_add-i c = let t = c.before.before.before in omega (arith, t.loop-i-test.true, (S t).requires)
 
-loop-less : tie.Need-loop-i-smaller invariant_loop decreases_loop
-loop-less c = let t = c.before.before.before in omega (arith, t.loop-i-test.true)
+loop-i-smaller : tie.Need-loop-i-smaller invariant_loop decreases_loop
+loop-i-smaller c = let t = c.before.before.before in omega (arith, t.loop-i-test.true)
 
-loop-again : tie.Need-loop-i-preserved invariant_loop decreases_loop
-loop-again c = let t = c.before.before.before in omega (arith, (L t).loop-i.invariant, next t, c.before.sign_length.ensures, c.digit_count.ensures)
+loop-i-preserved : tie.Need-loop-i-preserved invariant_loop decreases_loop
+loop-i-preserved c = let t = c.before.before.before in omega (arith, (L t).loop-i.invariant, next t, c.before.sign_length.ensures, c.digit_count.ensures)
 
 returns : tie.Need-returns invariant_loop decreases_loop
 returns c =
@@ -87,15 +87,15 @@ numbers_length_spec =
     (tie.spec
     invariant_loop
     decreases_loop
-    loop-holds
-    mul-a
-    array-copy-out-a
-    sign-length-requires
-    add-n
-    digit-count-requires
-    add-n-2
-    add-n-3
-    add-i
-    loop-less
-    loop-again
+    loop-i-init
+    offset_bounds-amounts-i
+    bounds-amounts-i
+    sign_length-requires
+    overflow_add-n
+    digit_count-requires
+    overflow_add-n-in-loop-i
+    overflow_add-n-in-loop-i-2
+    overflow_add-i
+    loop-i-smaller
+    loop-i-preserved
     returns)

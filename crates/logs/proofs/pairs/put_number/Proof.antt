@@ -49,29 +49,29 @@ module _ (d : tie.After-digits_at-next) where
   end : d.digits_at-next.result + 1 ≤ length S.args.out-1.now
   end = omega (arith, signed.behind, number_length A, S.pre)
 
-slice-write-out : tie.Need-bounds-out-at
-slice-write-out c = omega (arith, number_length c.before.args.a, c.before.requires)
+bounds-out-at : tie.Need-bounds-out-at
+bounds-out-at c = omega (arith, number_length c.before.args.a, c.before.requires)
 
-sign-length-requires : tie.Need-sign_length-requires
-sign-length-requires c κs = tt
+sign_length-requires : tie.Need-sign_length-requires
+sign_length-requires c κs = tt
 
-add-digits-at : tie.Need-overflow_add-at
-add-digits-at c = let s = c.before.before.before in omega (arith, number_length s.args.a, s.requires, c.sign_length.ensures)
+overflow_add-at : tie.Need-overflow_add-at
+overflow_add-at c = let s = c.before.before.before in omega (arith, number_length s.args.a, s.requires, c.sign_length.ensures)
 
-digit-count-requires : tie.Need-digit_count-requires
-digit-count-requires c κs = tt
+digit_count-requires : tie.Need-digit_count-requires
+digit_count-requires c κs = tt
 
-digits-at-requires : tie.Need-digits_at-next-requires
-digits-at-requires c κs = tt
+digits_at-next-requires : tie.Need-digits_at-next-requires
+digits_at-next-requires c κs = tt
 
-slice-write-out-2 : tie.Need-bounds-out-next
-slice-write-out-2 c = let d = c.before.before in omega (arith, end d, put_length (signed d))
+bounds-out-next : tie.Need-bounds-out-next
+bounds-out-next c = let d = c.before.before in omega (arith, end d, put_length (signed d))
 
-add-result : tie.Need-overflow_add-result
-add-result c = omega (arith, end c.before.before)
+overflow_add-result : tie.Need-overflow_add-result
+overflow_add-result c = omega (arith, end c.before.before)
 
-same_length : tie.Need-shape_of-out
-same_length c = simp length-set (put_length (signed c.before.before))
+shape_of-out : tie.Need-shape_of-out
+shape_of-out c = simp length-set (put_length (signed c.before.before))
 
 returns : tie.Need-returns
 unfolding number_line
@@ -81,12 +81,12 @@ pub put_number_spec : {M : Type 1} → statement M
 put_number_spec =
     tie.close
     (tie.spec
-    slice-write-out
-    sign-length-requires
-    add-digits-at
-    digit-count-requires
-    digits-at-requires
-    slice-write-out-2
-    add-result
-    same_length
+    bounds-out-at
+    sign_length-requires
+    overflow_add-at
+    digit_count-requires
+    digits_at-next-requires
+    bounds-out-next
+    overflow_add-result
+    shape_of-out
     returns)

@@ -15,14 +15,14 @@ use Rattle.logs.proofs.TextLaws.{marks_plain, marks_mark, filled_plain, filled_m
 use Rattle.logs.proofs.pairs.put_text.Statement.{statement}
 use Rattle.logs.proofs.pairs.put_text.Tie as tie
 
-abbrev invariant_loop : tie.invariant_loop
+abbrev invariant_loop : tie.invariant-loop-i
 invariant_loop out₀ keys amounts at₀ line₀ i₀ out at line i =
     (length out ≡ length out₀)
     × (line + marks (drop i keys) ≤ 8)
     × (at + length (filled (drop i keys) (drop line amounts)) ≡ length (filled keys amounts))
     × (sets out at (filled (drop i keys) (drop line amounts)) ≡ sets out₀ 0 (filled keys amounts))
 
-abbrev decreases_loop : tie.decreases_loop
+abbrev decreases_loop : tie.decreases-loop-i
 decreases_loop out₀ keys amounts at₀ line₀ i₀ out at line i = length keys - i
 
 eight : (s : tie.Start invariant_loop decreases_loop) → length s.args.t3 ≡ 8
@@ -68,26 +68,26 @@ module _ (c : tie.Else-byte-ne-EQUALS invariant_loop decreases_loop) where
   rest : filled (drop (I B) (K B)) (drop (L B).loop-i.line (S B).args.t3) ≡ get_or (K B) (I B) 0 ∷ (number_line (get_or (S B).args.t3 (L B).loop-i.line (count_of 0)) ++ filled (drop (I B + 1) (K B)) (drop ((L B).loop-i.line + 1) (S B).args.t3))
   rest = filled_mark (K B) (I B) (within B) (S B).args.t3 (L B).loop-i.line (count_of 0) mark (rw (eight (S B)) one)
 
-loop-holds : tie.Need-loop-i-init invariant_loop decreases_loop
-loop-holds c = (refl, omega (arith, c.before.before.requires.0), omega arith, refl)
+loop-i-init : tie.Need-loop-i-init invariant_loop decreases_loop
+loop-i-init c = (refl, omega (arith, c.before.before.requires.0), omega arith, refl)
 
-shared-slice-read-byte : tie.Need-bounds-keys-i invariant_loop decreases_loop
-shared-slice-read-byte c = within c
+bounds-keys-i : tie.Need-bounds-keys-i invariant_loop decreases_loop
+bounds-keys-i c = within c
 
-slice-write-out : tie.Need-bounds-out-at invariant_loop decreases_loop
-slice-write-out c = room c
+bounds-out-at : tie.Need-bounds-out-at invariant_loop decreases_loop
+bounds-out-at c = room c
 
-add_at : tie.Need-overflow_add-at invariant_loop decreases_loop
-add_at c = omega (arith, room c)
+overflow_add-at : tie.Need-overflow_add-at invariant_loop decreases_loop
+overflow_add-at c = omega (arith, room c)
 
-add-i : tie.Need-overflow_add-i invariant_loop decreases_loop
-add-i c = omega (arith, within c)
+overflow_add-i : tie.Need-overflow_add-i invariant_loop decreases_loop
+overflow_add-i c = omega (arith, within c)
 
-loop-less : tie.Need-loop-i-smaller-then-byte-ne-EQUALS invariant_loop decreases_loop
-loop-less c = omega (arith, within c.before)
+loop-i-smaller-then-byte-ne-EQUALS : tie.Need-loop-i-smaller-then-byte-ne-EQUALS invariant_loop decreases_loop
+loop-i-smaller-then-byte-ne-EQUALS c = omega (arith, within c.before)
 
-loop-again : tie.Need-loop-i-preserved-then-byte-ne-EQUALS invariant_loop decreases_loop
-loop-again c =
+loop-i-preserved-then-byte-ne-EQUALS : tie.Need-loop-i-preserved-then-byte-ne-EQUALS invariant_loop decreases_loop
+loop-i-preserved-then-byte-ne-EQUALS c =
     let b = c.before in
     let l = (L b).loop-i in
     let plain = ne_eqb _ _ c.if-byte-ne-EQUALS.true in
@@ -98,26 +98,26 @@ loop-again c =
       put_byte l.out-1 l.at _ _ _ e ∙ l.inv.3,
     )
 
-mul-put-number : tie.Need-offset_bounds-amounts-line invariant_loop decreases_loop
-mul-put-number c = omega (arith, one c.before)
+offset_bounds-amounts-line : tie.Need-offset_bounds-amounts-line invariant_loop decreases_loop
+offset_bounds-amounts-line c = omega (arith, one c.before)
 
-array-copy-out-put-number : tie.Need-bounds-amounts-line invariant_loop decreases_loop
-array-copy-out-put-number c = one c.before
+bounds-amounts-line : tie.Need-bounds-amounts-line invariant_loop decreases_loop
+bounds-amounts-line c = one c.before
 
-put-number-requires : tie.Need-put_number-at-requires invariant_loop decreases_loop
-put-number-requires c κs =
+put_number-at-requires : tie.Need-put_number-at-requires invariant_loop decreases_loop
+put_number-at-requires c κs =
     let e = c.before.before in
     let l = (L (B e)).loop-i in
     rw length-set (omega (arith, simp length-append at (ap length (rest e)), l.inv.2, l.inv.0, (S (B e)).pre.1))
 
-add-line : tie.Need-overflow_add-line invariant_loop decreases_loop
-add-line c = omega (arith, one c.before.before.before.before.before)
+overflow_add-line : tie.Need-overflow_add-line invariant_loop decreases_loop
+overflow_add-line c = omega (arith, one c.before.before.before.before.before)
 
-loop-less-2 : tie.Need-loop-i-smaller invariant_loop decreases_loop
-loop-less-2 c = omega (arith, within c.before.before.before.before.before.before)
+loop-i-smaller : tie.Need-loop-i-smaller invariant_loop decreases_loop
+loop-i-smaller c = omega (arith, within c.before.before.before.before.before.before)
 
-loop-again-2 : tie.Need-loop-i-preserved invariant_loop decreases_loop
-loop-again-2 c =
+loop-i-preserved : tie.Need-loop-i-preserved invariant_loop decreases_loop
+loop-i-preserved c =
     let put = c.before.before in
     let e = put.before.before.before in
     let l = (L (B e)).loop-i in
@@ -128,8 +128,8 @@ loop-again-2 c =
       put_more _ _ p ∙ put_byte l.out-1 l.at _ _ _ (rest e) ∙ l.inv.3,
     )
 
-same_length : tie.Need-shape_of-out invariant_loop decreases_loop
-same_length c = c.before.loop-i.invariant.0
+shape_of-out : tie.Need-shape_of-out invariant_loop decreases_loop
+shape_of-out c = c.before.loop-i.invariant.0
 
 returns : tie.Need-returns invariant_loop decreases_loop
 returns c =
@@ -148,18 +148,18 @@ put_text_spec =
     (tie.spec
     invariant_loop
     decreases_loop
-    loop-holds
-    shared-slice-read-byte
-    slice-write-out
-    add_at
-    add-i
-    loop-less
-    loop-again
-    mul-put-number
-    array-copy-out-put-number
-    put-number-requires
-    add-line
-    loop-less-2
-    loop-again-2
-    same_length
+    loop-i-init
+    bounds-keys-i
+    bounds-out-at
+    overflow_add-at
+    overflow_add-i
+    loop-i-smaller-then-byte-ne-EQUALS
+    loop-i-preserved-then-byte-ne-EQUALS
+    offset_bounds-amounts-line
+    bounds-amounts-line
+    put_number-at-requires
+    overflow_add-line
+    loop-i-smaller
+    loop-i-preserved
+    shape_of-out
     returns)

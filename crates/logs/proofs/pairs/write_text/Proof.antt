@@ -26,23 +26,23 @@ module _ (c : tie.After-numbers_length) where
       ∙ ap (λ (n : ℕ). length K + length (number_lines (take n S.args.amounts))) S.pre.0
       ∙ ap (λ (n : ℕ). length K + n) (sym c.numbers_length.ensures)
 
-numbers-length-requires : tie.Need-numbers_length-requires
-numbers-length-requires c κs = c.before.before.requires.1
+numbers_length-requires : tie.Need-numbers_length-requires
+numbers_length-requires c κs = c.before.before.requires.1
 
-add-if1 : tie.Need-overflow_add-keys
-add-if1 c = omega (arith, (S c).requires, c.numbers_length.ensures, numbers_few (S c).args.amounts (S c).args.lines (S c).requires.1)
+overflow_add-keys : tie.Need-overflow_add-keys
+overflow_add-keys c = omega (arith, (S c).requires, c.numbers_length.ensures, numbers_few (S c).args.amounts (S c).args.lines (S c).requires.1)
 
-returns : tie.Need-returns-then-out-keys
-returns c = unfitted _ _ (omega (arith, size c.before, c.if-out-keys.true))
+returns-then-out-keys : tie.Need-returns-then-out-keys
+returns-then-out-keys c = unfitted _ _ (omega (arith, size c.before, c.if-out-keys.true))
 
-put-text-requires : tie.Need-put_text-requires
-put-text-requires c κs = let n = c.before.before in (omega (arith, (S n).requires), omega (arith, size n, c.before.if-out-keys.false))
+put_text-requires : tie.Need-put_text-requires
+put_text-requires c κs = let n = c.before.before in (omega (arith, (S n).requires), omega (arith, size n, c.before.if-out-keys.false))
 
-same_length : tie.Need-shape_of-out
-same_length c = search rules
+shape_of-out : tie.Need-shape_of-out
+shape_of-out c = search rules
 
-returns-2 : tie.Need-returns
-returns-2 c =
+returns : tie.Need-returns
+returns c =
     let put = c.before.before in
     let n = put.before.before.before in
     fitted put.put_text.ensures (omega (arith, size n, put.before.before.if-out-keys.false))
@@ -50,4 +50,4 @@ returns-2 c =
 pub write_text_spec : {M : Type 1} → statement M
 write_text_spec =
     tie.close
-    (tie.spec numbers-length-requires add-if1 returns put-text-requires same_length returns-2)
+    (tie.spec numbers_length-requires overflow_add-keys returns-then-out-keys put_text-requires shape_of-out returns)

@@ -9,18 +9,18 @@ use Rattle.logs.proofs.Turns.{moved_by, between_within, taken_whole, read, move}
 use Rattle.logs.proofs.pieces.keep.Statement.{statement}
 use Rattle.logs.proofs.pieces.keep.Tie as tie
 
-abbrev invariant_loop : tie.invariant_loop
+abbrev invariant_loop : tie.invariant-loop-i
 invariant_loop space₀ from all kept i₀ space i =
     (i ≤ kept) × (kept ≡ length (between space₀ from all)) × (kept ≤ length space₀ - from) × (length space ≡ length space₀) × (space ≡ moved_by space₀ from i)
 
-abbrev decreases_loop : tie.decreases_loop
+abbrev decreases_loop : tie.decreases-loop-i
 decreases_loop space₀ from all kept i₀ space i = kept - i
 
-part-requires : tie.Need-part-kept-requires invariant_loop decreases_loop
-part-requires c κs = tt
+part-kept-requires : tie.Need-part-kept-requires invariant_loop decreases_loop
+part-kept-requires c κs = tt
 
-loop-holds : tie.Need-loop-i-init invariant_loop decreases_loop
-loop-holds c =
+loop-i-init : tie.Need-loop-i-init invariant_loop decreases_loop
+loop-i-init c =
     let a = c.before.before.before.args in
     let e = ap length c.part-kept.ensures in
     (zero-le, e, omega (arith, e, between_within a.space.now a.from a.all), refl, refl)
@@ -36,23 +36,23 @@ module _ (c : tie.In-loop-i invariant_loop decreases_loop) where
   within : A.args.from + L.loop-i.i < length A.args.space.now
   within = omega (arith, c.loop-i-test.true, L.loop-i.inv.2)
 
-add-space : tie.Need-overflow_add-space invariant_loop decreases_loop
-add-space c = search rules
+overflow_add-space : tie.Need-overflow_add-space invariant_loop decreases_loop
+overflow_add-space c = search rules
 
-slice-read-space : tie.Need-bounds-space-from invariant_loop decreases_loop
-slice-read-space c = search rules
+bounds-space-from : tie.Need-bounds-space-from invariant_loop decreases_loop
+bounds-space-from c = search rules
 
-slice-write-space : tie.Need-bounds-space-i invariant_loop decreases_loop
-slice-write-space c = search rules
+bounds-space-i : tie.Need-bounds-space-i invariant_loop decreases_loop
+bounds-space-i c = search rules
 
-add-i : tie.Need-overflow_add-i invariant_loop decreases_loop
-add-i c = search rules
+overflow_add-i : tie.Need-overflow_add-i invariant_loop decreases_loop
+overflow_add-i c = search rules
 
-loop-less : tie.Need-loop-i-smaller invariant_loop decreases_loop
-loop-less c = omega (arith, c.before.loop-i-test.true)
+loop-i-smaller : tie.Need-loop-i-smaller invariant_loop decreases_loop
+loop-i-smaller c = omega (arith, c.before.loop-i-test.true)
 
-loop-again : tie.Need-loop-i-preserved invariant_loop decreases_loop
-loop-again c =
+loop-i-preserved : tie.Need-loop-i-preserved invariant_loop decreases_loop
+loop-i-preserved c =
     let t = c.before in
     let l = (L t).loop-i in
     let a = (A t).args in (
@@ -63,8 +63,8 @@ loop-again c =
       rw (l.inv.4, read a.space.now a.from l.i (within t)) (move a.space.now a.from l.i (within t)),
     )
 
-same_length : tie.Need-shape_of-space invariant_loop decreases_loop
-same_length c = c.before.loop-i.invariant.3
+shape_of-space : tie.Need-shape_of-space invariant_loop decreases_loop
+shape_of-space c = c.before.loop-i.invariant.3
 
 returns : tie.Need-returns invariant_loop decreases_loop
 unfolding kept_in
@@ -81,13 +81,13 @@ keep_spec =
     (tie.spec
     invariant_loop
     decreases_loop
-    part-requires
-    loop-holds
-    add-space
-    slice-read-space
-    slice-write-space
-    add-i
-    loop-less
-    loop-again
-    same_length
+    part-kept-requires
+    loop-i-init
+    overflow_add-space
+    bounds-space-from
+    bounds-space-i
+    overflow_add-i
+    loop-i-smaller
+    loop-i-preserved
+    shape_of-space
     returns)

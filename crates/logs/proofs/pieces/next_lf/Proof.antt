@@ -9,39 +9,39 @@ use Rattle.logs.proofs.Turns.{look}
 use Rattle.logs.proofs.pieces.next_lf.Statement.{statement}
 use Rattle.logs.proofs.pieces.next_lf.Tie as tie
 
-abbrev invariant_loop : tie.invariant_loop
+abbrev invariant_loop : tie.invariant-loop-i
 invariant_loop piece from i₀ i = lf_from i (drop i piece) ≡ next_lf piece from
 
-abbrev decreases_loop : tie.decreases_loop
+abbrev decreases_loop : tie.decreases-loop-i
 decreases_loop piece from i₀ i = length piece - i
 
-loop-holds : tie.Need-loop-i-init invariant_loop decreases_loop
+loop-i-init : tie.Need-loop-i-init invariant_loop decreases_loop
 unfolding next_lf
-loop-holds c = refl
+loop-i-init c = refl
 
-byte-at-requires : tie.Need-byte_at-requires invariant_loop decreases_loop
-byte-at-requires c κs = tt
+byte_at-requires : tie.Need-byte_at-requires invariant_loop decreases_loop
+byte_at-requires c κs = tt
 
-returns : tie.Need-returns-then-byte_at-eq-LF invariant_loop decreases_loop
-returns c =
+returns-then-byte_at-eq-LF : tie.Need-returns-then-byte_at-eq-LF invariant_loop decreases_loop
+returns-then-byte_at-eq-LF c =
     let t = c.before.before in
     let l = t.before in
     sym (look l.before.before.args.piece.now l.loop-i.i t.loop-i-test.true ∙ simp (eq-eqb _ _ (sym c.before.byte_at.ensures ∙ c.if-byte_at-eq-LF.true))) ∙ l.loop-i.invariant
 
-add-i : tie.Need-overflow_add-i invariant_loop decreases_loop
-add-i c = omega (arith, c.before.before.loop-i-test.true)
+overflow_add-i : tie.Need-overflow_add-i invariant_loop decreases_loop
+overflow_add-i c = omega (arith, c.before.before.loop-i-test.true)
 
-loop-less : tie.Need-loop-i-smaller invariant_loop decreases_loop
-loop-less c = omega (arith, c.before.before.loop-i-test.true)
+loop-i-smaller : tie.Need-loop-i-smaller invariant_loop decreases_loop
+loop-i-smaller c = omega (arith, c.before.before.loop-i-test.true)
 
-loop-again : tie.Need-loop-i-preserved invariant_loop decreases_loop
-loop-again c =
+loop-i-preserved : tie.Need-loop-i-preserved invariant_loop decreases_loop
+loop-i-preserved c =
     let t = c.before.before in
     let l = t.before in
     sym (look l.before.before.args.piece.now l.loop-i.i t.loop-i-test.true ∙ simp (ne_eqb _ _ (λ q. c.if-byte_at-eq-LF.false (c.before.byte_at.ensures ∙ q)))) ∙ l.loop-i.invariant
 
-returns-2 : tie.Need-returns invariant_loop decreases_loop
-returns-2 c =
+returns : tie.Need-returns invariant_loop decreases_loop
+returns c =
     let l = c.before in
     sym (simp (drop_of_length-le l.before.before.args.piece.now c.loop-i-test.false)) ∙ l.loop-i.invariant
 
@@ -51,10 +51,10 @@ next_lf_spec =
     (tie.spec
     invariant_loop
     decreases_loop
-    loop-holds
-    byte-at-requires
-    returns
-    add-i
-    loop-less
-    loop-again
-    returns-2)
+    loop-i-init
+    byte_at-requires
+    returns-then-byte_at-eq-LF
+    overflow_add-i
+    loop-i-smaller
+    loop-i-preserved
+    returns)

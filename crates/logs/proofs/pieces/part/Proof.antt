@@ -50,20 +50,20 @@ module _ (l : List ℕ) (from end f e : ℕ) (p : e ≡ min end (length l)) (q :
       go true h = some (leb-true _ _ h) (leb end (length l)) refl
       go false h = none (leb-false _ _ h) (leb end from) refl
 
-lesser-requires : tie.Need-lesser-end-requires
-lesser-requires c κs = tt
+lesser-end-requires : tie.Need-lesser-end-requires
+lesser-end-requires c κs = tt
 
-lesser-requires-2 : tie.Need-lesser-from-requires
-lesser-requires-2 c κs = tt
+lesser-from-requires : tie.Need-lesser-from-requires
+lesser-from-requires c κs = tt
 
-sub-result : tie.Need-slice_bounds-result-count
-sub-result c = search rules
+slice_bounds-result-count : tie.Need-slice_bounds-result-count
+slice_bounds-result-count c = search rules
 
-part-result-start : tie.Need-slice-bounds-result-start
-part-result-start c = search rules
+slice-bounds-result-start : tie.Need-slice-bounds-result-start
+slice-bounds-result-start c = search rules
 
-part-result-end : tie.Need-slice-bounds-result-end
-part-result-end c = search rules
+slice-bounds-result-end : tie.Need-slice-bounds-result-end
+slice-bounds-result-end c = search rules
 
 returns : tie.Need-returns
 returns c =
@@ -76,9 +76,9 @@ pub part_spec : {M : Type 1} → statement M
 part_spec =
     tie.close
     (tie.spec
-    lesser-requires
-    lesser-requires-2
-    sub-result
-    part-result-start
-    part-result-end
+    lesser-end-requires
+    lesser-from-requires
+    slice_bounds-result-count
+    slice-bounds-result-start
+    slice-bounds-result-end
     returns)

@@ -5,17 +5,17 @@ use Rattle.outline.specs.Log.{line_at}
 use Rattle.logs.proofs.reader.line_at.Statement.{statement}
 use Rattle.logs.proofs.reader.line_at.Tie as tie
 
-part-requires : tie.Need-part-held-requires
+part-held-requires : tie.Need-part-held-requires
+part-held-requires c κs = search rules
+
+next_lf-end-requires : tie.Need-next_lf-end-requires
+next_lf-end-requires c κs = search rules
+
+part-requires : tie.Need-part-requires
 part-requires c κs = search rules
 
-next-lf-requires : tie.Need-next_lf-end-requires
-next-lf-requires c κs = search rules
-
-part-requires-2 : tie.Need-part-requires
-part-requires-2 c κs = search rules
-
-log-line-requires : tie.Need-log_line-said-requires
-log-line-requires c κs = search rules
+log_line-said-requires : tie.Need-log_line-said-requires
+log_line-said-requires c κs = search rules
 
 returns : tie.Need-returns
 unfolding line_at
@@ -24,4 +24,4 @@ returns c =
     simp (c.log_line-said.ensures, c.before.part.ensures, l.next_lf-end.ensures, l.before.part-held.ensures, sub-zero)
 
 pub line_at_spec : {M : Type 1} → statement M
-line_at_spec = tie.close (tie.spec part-requires next-lf-requires part-requires-2 log-line-requires returns)
+line_at_spec = tie.close (tie.spec part-held-requires next_lf-end-requires part-requires log_line-said-requires returns)

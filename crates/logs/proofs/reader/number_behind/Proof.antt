@@ -5,14 +5,14 @@ use borrow.Author.Tests.{lt-ltb, le-ltb}
 use Rattle.logs.proofs.reader.number_behind.Statement.{statement}
 use Rattle.logs.proofs.reader.number_behind.Tie as tie
 
-add-result : tie.Need-overflow_add-result
-add-result c = search rules
+overflow_add-result : tie.Need-overflow_add-result
+overflow_add-result c = search rules
 
-returns : tie.Need-returns-then-number-lt18446744073709551615
-returns c = simp (lt-ltb _ _ c.if-number-lt18446744073709551615.true, add-one)
+returns-then-number-lt18446744073709551615 : tie.Need-returns-then-number-lt18446744073709551615
+returns-then-number-lt18446744073709551615 c = simp (lt-ltb _ _ c.if-number-lt18446744073709551615.true, add-one)
 
-returns-2 : tie.Need-returns-else-number-lt18446744073709551615
-returns-2 c = simp (le-ltb _ _ c.if-number-lt18446744073709551615.false)
+returns-else-number-lt18446744073709551615 : tie.Need-returns-else-number-lt18446744073709551615
+returns-else-number-lt18446744073709551615 c = simp (le-ltb _ _ c.if-number-lt18446744073709551615.false)
 
 pub number_behind_spec : {M : Type 1} → statement M
-number_behind_spec = tie.close (tie.spec add-result returns returns-2)
+number_behind_spec = tie.close (tie.spec overflow_add-result returns-then-number-lt18446744073709551615 returns-else-number-lt18446744073709551615)

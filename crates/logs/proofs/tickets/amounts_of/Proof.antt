@@ -25,35 +25,35 @@ last s = search sfits_of
 tracked : (s : tie.Start) → SFits w32 s.args.weighing.tracked
 tracked s = search sfits_of
 
-cast-t6 : tie.Need-overflow_cast-batches
-cast-t6 c = search rules
+overflow_cast-batches : tie.Need-overflow_cast-batches
+overflow_cast-batches c = search rules
 
 wide-requires : tie.Need-wide-requires
 wide-requires c κs = tt
 
-amount-of-requires : tie.Need-amount_of-requires
-amount-of-requires c κs = tt
+amount_of-requires : tie.Need-amount_of-requires
+amount_of-requires c κs = tt
 
-amount-of-requires-2 : tie.Need-amount_of-requires-2
-amount-of-requires-2 c κs = tt
+amount_of-requires-2 : tie.Need-amount_of-requires-2
+amount_of-requires-2 c κs = tt
 
-amount-of-requires-3 : tie.Need-amount_of-requires-3
-amount-of-requires-3 c κs = tt
+amount_of-requires-3 : tie.Need-amount_of-requires-3
+amount_of-requires-3 c κs = tt
 
-amount-of-requires-4 : tie.Need-amount_of-requires-4
-amount-of-requires-4 c κs = tt
+amount_of-requires-4 : tie.Need-amount_of-requires-4
+amount_of-requires-4 c κs = tt
 
 wide-requires-2 : tie.Need-wide-requires-2
 wide-requires-2 c κs = tt
 
-amount-of-requires-5 : tie.Need-amount_of-requires-5
-amount-of-requires-5 c κs = tt
+amount_of-requires-5 : tie.Need-amount_of-requires-5
+amount_of-requires-5 c κs = tt
 
 wide-requires-3 : tie.Need-wide-requires-3
 wide-requires-3 c κs = tt
 
-amount-of-requires-6 : tie.Need-amount_of-requires-6
-amount-of-requires-6 c κs = tt
+amount_of-requires-6 : tie.Need-amount_of-requires-6
+amount_of-requires-6 c κs = tt
 
 returns : tie.Need-returns
 returns c =
@@ -88,14 +88,14 @@ pub amounts_of_spec : {M : Type 1} → statement M
 amounts_of_spec =
     tie.close
     (tie.spec
-    cast-t6
+    overflow_cast-batches
     wide-requires
-    amount-of-requires
-    amount-of-requires-2
-    amount-of-requires-3
-    amount-of-requires-4
+    amount_of-requires
+    amount_of-requires-2
+    amount_of-requires-3
+    amount_of-requires-4
     wide-requires-2
-    amount-of-requires-5
+    amount_of-requires-5
     wide-requires-3
-    amount-of-requires-6
+    amount_of-requires-6
     returns)

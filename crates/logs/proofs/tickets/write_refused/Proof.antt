@@ -8,12 +8,12 @@ use Rattle.logs.proofs.tickets.write_refused.Tie as tie
 slice-aggregate-write-text : tie.Need-slice-aggregate-write-text
 slice-aggregate-write-text c = search rules
 
-write-text-requires : tie.Need-write_text-requires
+write_text-requires : tie.Need-write_text-requires
 unfolding marks
-write-text-requires c κs = search rules
+write_text-requires c κs = search rules
 
-same_length : tie.Need-shape_of-out
-same_length c = search rules
+shape_of-out : tie.Need-shape_of-out
+shape_of-out c = search rules
 
 returns : tie.Need-returns
 returns c =
@@ -22,4 +22,4 @@ returns c =
 
 pub write_refused_spec : {M : Type 1} → statement M
 write_refused_spec =
-    tie.close (tie.spec slice-aggregate-write-text write-text-requires same_length returns)
+    tie.close (tie.spec slice-aggregate-write-text write_text-requires shape_of-out returns)

@@ -5,30 +5,30 @@ use Rattle.logs.proofs.TextLaws.{ticket_none, ticket_lines, nothing}
 use Rattle.logs.proofs.tickets.write_ticket.Statement.{statement}
 use Rattle.logs.proofs.tickets.write_ticket.Tie as tie
 
-enum-known-closed : tie.Need-enum_known-closed
-enum-known-closed c = search rules
+enum_known-closed : tie.Need-enum_known-closed
+enum_known-closed c = search rules
 
 enum_told : tie.Need-enum_told-1
 enum_told c = search rules
 
-returns : tie.Need-returns-in_default
-returns c = simp (c.enum_told-1.given.1, ticket_none) (nothing _)
+returns-in_default : tie.Need-returns-in_default
+returns-in_default c = simp (c.enum_told-1.given.1, ticket_none) (nothing _)
 
 slice-aggregate-write-text : tie.Need-slice-aggregate-write-text
 slice-aggregate-write-text c = search rules
 
-amounts-of-requires : tie.Need-amounts_of-requires
-amounts-of-requires c κs = search rules
+amounts_of-requires : tie.Need-amounts_of-requires
+amounts_of-requires c κs = search rules
 
-write-text-requires : tie.Need-write_text-requires
+write_text-requires : tie.Need-write_text-requires
 unfolding marks
-write-text-requires c κs = search rules
+write_text-requires c κs = search rules
 
-same_length : tie.Need-shape_of-out
-same_length c = search rules
+shape_of-out : tie.Need-shape_of-out
+shape_of-out c = search rules
 
-returns-2 : tie.Need-returns
-returns-2 c =
+returns : tie.Need-returns
+returns c =
     let w = c.before.before in
     let d = w.before.before.before.before.before in
     let a = d.before.before.before.args in
@@ -38,11 +38,11 @@ pub write_ticket_spec : {M : Type 1} → statement M
 write_ticket_spec =
     tie.close
     (tie.spec
-    enum-known-closed
+    enum_known-closed
     enum_told
-    returns
+    returns-in_default
     slice-aggregate-write-text
-    amounts-of-requires
-    write-text-requires
-    same_length
-    returns-2)
+    amounts_of-requires
+    write_text-requires
+    shape_of-out
+    returns)

@@ -7,46 +7,46 @@ use Rattle.logs.proofs.ReceiveLaws.{copied, ended}
 use Rattle.logs.proofs.ticks.put_received.Statement.{statement}
 use Rattle.logs.proofs.ticks.put_received.Tie as tie
 
-abbrev invariant_loop : tie.invariant_loop
+abbrev invariant_loop : tie.invariant-loop-i
 invariant_loop receive₀ command i₀ receive i = (i ≤ length command) × (length receive ≡ length receive₀) × (take i receive ≡ take i command)
 
-abbrev decreases_loop : tie.decreases_loop
+abbrev decreases_loop : tie.decreases-loop-i
 decreases_loop receive₀ command i₀ receive i = length command - i
 
-loop-holds : tie.Need-loop-i-init invariant_loop decreases_loop
-loop-holds c = (zero-le, refl, refl)
+loop-i-init : tie.Need-loop-i-init invariant_loop decreases_loop
+loop-i-init c = (zero-le, refl, refl)
 
-shared-slice-read-receive : tie.Need-bounds-command-i invariant_loop decreases_loop
-shared-slice-read-receive c = omega arith
+bounds-command-i : tie.Need-bounds-command-i invariant_loop decreases_loop
+bounds-command-i c = omega arith
 
-slice-write-receive : tie.Need-bounds-receive-i invariant_loop decreases_loop
-slice-write-receive c = omega (arith, c.before.before.before.requires)
+bounds-receive-i : tie.Need-bounds-receive-i invariant_loop decreases_loop
+bounds-receive-i c = omega (arith, c.before.before.before.requires)
 
-add-i : tie.Need-overflow_add-i invariant_loop decreases_loop
-add-i c = omega arith
+overflow_add-i : tie.Need-overflow_add-i invariant_loop decreases_loop
+overflow_add-i c = omega arith
 
-loop-less : tie.Need-loop-i-smaller invariant_loop decreases_loop
-loop-less c = omega arith
+loop-i-smaller : tie.Need-loop-i-smaller invariant_loop decreases_loop
+loop-i-smaller c = omega arith
 
-loop-again : tie.Need-loop-i-preserved invariant_loop decreases_loop
-loop-again c =
+loop-i-preserved : tie.Need-loop-i-preserved invariant_loop decreases_loop
+loop-i-preserved c =
     let l = c.before.before in
     (omega arith, simp length-set l.loop-i.invariant.1, copied l.before.args.command.now _ l.loop-i.i c.before.loop-i-test.true (omega (arith, l.before.requires)) l.loop-i.invariant.2)
 
-slice-write-receive-2 : tie.Need-bounds-receive-i-2 invariant_loop decreases_loop
-slice-write-receive-2 c = omega (arith, c.before.before.requires)
+bounds-receive-i-2 : tie.Need-bounds-receive-i-2 invariant_loop decreases_loop
+bounds-receive-i-2 c = omega (arith, c.before.before.requires)
 
-add-receive : tie.Need-overflow_add-receive invariant_loop decreases_loop
-add-receive c = omega (arith, c.before.before.requires)
+overflow_add-receive : tie.Need-overflow_add-receive invariant_loop decreases_loop
+overflow_add-receive c = omega (arith, c.before.before.requires)
 
-slice-write-receive-3 : tie.Need-bounds-receive-i-3 invariant_loop decreases_loop
-slice-write-receive-3 c = simp length-set (omega (arith, c.before.before.requires))
+bounds-receive-i-3 : tie.Need-bounds-receive-i-3 invariant_loop decreases_loop
+bounds-receive-i-3 c = simp length-set (omega (arith, c.before.before.requires))
 
-add-result : tie.Need-overflow_add-result invariant_loop decreases_loop
-add-result c = omega (arith, c.before.before.requires)
+overflow_add-result : tie.Need-overflow_add-result invariant_loop decreases_loop
+overflow_add-result c = omega (arith, c.before.before.requires)
 
-same_length : tie.Need-shape_of-receive invariant_loop decreases_loop
-same_length c = simp length-set c.before.loop-i.invariant.1
+shape_of-receive : tie.Need-shape_of-receive invariant_loop decreases_loop
+shape_of-receive c = simp length-set c.before.loop-i.invariant.1
 
 returns : tie.Need-returns invariant_loop decreases_loop
 returns c =
@@ -59,15 +59,15 @@ put_received_spec =
     (tie.spec
     invariant_loop
     decreases_loop
-    loop-holds
-    shared-slice-read-receive
-    slice-write-receive
-    add-i
-    loop-less
-    loop-again
-    slice-write-receive-2
-    add-receive
-    slice-write-receive-3
-    add-result
-    same_length
+    loop-i-init
+    bounds-command-i
+    bounds-receive-i
+    overflow_add-i
+    loop-i-smaller
+    loop-i-preserved
+    bounds-receive-i-2
+    overflow_add-receive
+    bounds-receive-i-3
+    overflow_add-result
+    shape_of-receive
     returns)

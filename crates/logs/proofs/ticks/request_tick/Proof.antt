@@ -22,42 +22,42 @@ held c =
     ∙ c.put_received-n.ensures.1
     ∙ ap with_cr_lf c.before.before.part-command.ensures
 
-is-none-requires : tie.Need-is_none-requires
-is-none-requires c κs = search rules
+is_none-requires : tie.Need-is_none-requires
+is_none-requires c κs = search rules
 
-lineless-tick-requires : tie.Need-lineless_tick-requires
-lineless-tick-requires c κs = search rules
+lineless_tick-requires : tie.Need-lineless_tick-requires
+lineless_tick-requires c κs = search rules
 
-returns : tie.Need-returns-then-is_none
-returns c =
+returns-then-is_none : tie.Need-returns-then-is_none
+returns-then-is_none c =
     let a = c.before.before.before.before.before.args in
     let q = to_z-of_z c.before.before.before.before.before.ranges.count in
     let n = sym c.before.before.is_none.ensures ∙ c.before.if-is_none.true in
     (none a.s a.st a.contact a.request.now a.reply-1.now q n c.lineless_tick.ensures, none_bytes a.s a.st a.contact a.request.now a.reply-1.now q n)
 
-part-requires : tie.Need-part-command-requires
-part-requires c κs = search rules
+part-command-requires : tie.Need-part-command-requires
+part-command-requires c κs = search rules
 
-slice-aggregate-put-received : tie.Need-slice_bounds-put_received-end
-slice-aggregate-put-received c = search rules
+slice_bounds-put_received-end : tie.Need-slice_bounds-put_received-end
+slice_bounds-put_received-end c = search rules
 
-put-received-requires : tie.Need-put_received-n-requires
-put-received-requires c κs = omega (arith, few c)
+put_received-n-requires : tie.Need-put_received-n-requires
+put_received-n-requires c κs = omega (arith, few c)
 
-array-share-prefix-receive : tie.Need-slice_bounds-receive-end
-array-share-prefix-receive c = omega (arith, few c.before.before, c.before.put_received-n.ensures.0)
+slice_bounds-receive-end : tie.Need-slice_bounds-receive-end
+slice_bounds-receive-end c = omega (arith, few c.before.before, c.before.put_received-n.ensures.0)
 
-slice-aggregate-line-tick : tie.Need-slice_bounds-line_tick-end
-slice-aggregate-line-tick c = sym (length-take-le _ _ (array-share-prefix-receive c.before))
+slice_bounds-line_tick-end : tie.Need-slice_bounds-line_tick-end
+slice_bounds-line_tick-end c = sym (length-take-le _ _ (slice_bounds-receive-end c.before))
 
-line-tick-requires : tie.Need-line_tick-requires
-line-tick-requires c κs = search rules
+line_tick-requires : tie.Need-line_tick-requires
+line_tick-requires c κs = search rules
 
-same_length : tie.Need-shape_of-reply
-same_length c = search rules
+shape_of-reply : tie.Need-shape_of-reply
+shape_of-reply c = search rules
 
-returns-2 : tie.Need-returns
-returns-2 c =
+returns : tie.Need-returns
+returns c =
     let p = c.before.before.before.before.before.before in
     let g = p.before.before.before.before in
     let a = g.before.before.before.args in
@@ -70,14 +70,14 @@ pub request_tick_spec : {M : Type 1} → statement M
 request_tick_spec =
     tie.close
     (tie.spec
-    is-none-requires
-    lineless-tick-requires
-    returns
-    part-requires
-    slice-aggregate-put-received
-    put-received-requires
-    array-share-prefix-receive
-    slice-aggregate-line-tick
-    line-tick-requires
-    same_length
-    returns-2)
+    is_none-requires
+    lineless_tick-requires
+    returns-then-is_none
+    part-command-requires
+    slice_bounds-put_received-end
+    put_received-n-requires
+    slice_bounds-receive-end
+    slice_bounds-line_tick-end
+    line_tick-requires
+    shape_of-reply
+    returns)

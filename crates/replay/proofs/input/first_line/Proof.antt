@@ -4,17 +4,17 @@ use Rattle.logs.specs.LineLaws.{by_count}
 use Rattle.replay.proofs.input.first_line.Statement.{statement}
 use Rattle.replay.proofs.input.first_line.Tie as tie
 
-read-on-requires : tie.Need-read_on-all-requires
-read-on-requires c κs = search rules
+read_on-all-requires : tie.Need-read_on-all-requires
+read_on-all-requires c κs = search rules
 
-line-at-requires : tie.Need-line_at-requires
-line-at-requires c κs = search rules
+line_at-requires : tie.Need-line_at-requires
+line_at-requires c κs = search rules
 
-same_length : tie.Need-shape_of-space
-same_length c = search rules
+shape_of-space : tie.Need-shape_of-space
+shape_of-space c = search rules
 
 returns : tie.Need-returns
 returns c = by_count _ _ _ _ c.line_at_lem.ensures
 
 pub first_line_spec : {M : Type 1} → statement M
-first_line_spec = tie.close (tie.spec read-on-requires line-at-requires same_length returns)
+first_line_spec = tie.close (tie.spec read_on-all-requires line_at-requires shape_of-space returns)

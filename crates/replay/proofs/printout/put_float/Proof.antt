@@ -13,35 +13,35 @@ no_nan nan e = subst T e tt
 no_nan (inf s) e = tt
 no_nan (fin s m d) e = tt
 
-put-byte-requires : tie.Need-put_byte-requires
-put-byte-requires c κs = search rules
+put_byte-requires : tie.Need-put_byte-requires
+put_byte-requires c κs = search rules
 
-same_length : tie.Need-shape_of-out-then-x
-same_length c = search rules
+shape_of-out-then-x : tie.Need-shape_of-out-then-x
+shape_of-out-then-x c = search rules
 
-returns : tie.Need-returns-then-x
+returns-then-x : tie.Need-returns-then-x
+returns-then-x c = search rules
+
+float_to_bits-x : tie.Need-float_to_bits-x
+float_to_bits-x c = no_nan _ c.before.if-x.false
+
+put_bits-requires : tie.Need-put_bits-requires
+put_bits-requires c κs = search rules
+
+shape_of-out : tie.Need-shape_of-out
+shape_of-out c = search rules
+
+returns : tie.Need-returns
 returns c = search rules
-
-float-to-bits-put-bits : tie.Need-float_to_bits-x
-float-to-bits-put-bits c = no_nan _ c.before.if-x.false
-
-put-bits-requires : tie.Need-put_bits-requires
-put-bits-requires c κs = search rules
-
-same-length-2 : tie.Need-shape_of-out
-same-length-2 c = search rules
-
-returns-2 : tie.Need-returns
-returns-2 c = search rules
 
 pub put_float_spec : {M : Type 1} → statement M
 put_float_spec =
     tie.close
     (tie.spec
-    put-byte-requires
-    same_length
-    returns
-    float-to-bits-put-bits
-    put-bits-requires
-    same-length-2
-    returns-2)
+    put_byte-requires
+    shape_of-out-then-x
+    returns-then-x
+    float_to_bits-x
+    put_bits-requires
+    shape_of-out
+    returns)

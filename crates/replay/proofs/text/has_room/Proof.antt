@@ -7,14 +7,14 @@ use borrow.Author.Rules.{rules}
 use Rattle.replay.proofs.text.has_room.Statement.{statement}
 use Rattle.replay.proofs.text.has_room.Tie as tie
 
-returns : tie.Need-returns-then-length-n
-returns c = let a = c.before.args in sym (lt-leb (a.at + a.n) a.length (omega arith))
+returns-then-length-n : tie.Need-returns-then-length-n
+returns-then-length-n c = let a = c.before.args in sym (lt-leb (a.at + a.n) a.length (omega arith))
 
-returns-2 : tie.Need-returns-then-length-n-2
-returns-2 c = let a = c.before.before.args in sym (lt-leb (a.at + a.n) a.length (omega arith))
+returns-then-length-n-2 : tie.Need-returns-then-length-n-2
+returns-then-length-n-2 c = let a = c.before.before.args in sym (lt-leb (a.at + a.n) a.length (omega arith))
 
-returns-3 : tie.Need-returns
-returns-3 c = let a = c.before.before.args in sym (le-leb (a.at + a.n) a.length (omega arith))
+returns : tie.Need-returns
+returns c = let a = c.before.before.args in sym (le-leb (a.at + a.n) a.length (omega arith))
 
 pub has_room_spec : {M : Type 1} → statement M
-has_room_spec = tie.close (tie.spec returns returns-2 returns-3)
+has_room_spec = tie.close (tie.spec returns-then-length-n returns-then-length-n-2 returns)

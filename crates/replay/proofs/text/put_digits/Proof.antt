@@ -8,50 +8,50 @@ use Rattle.replay.proofs.Rooms.{room}
 use Rattle.replay.proofs.text.put_digits.Statement.{statement}
 use Rattle.replay.proofs.text.put_digits.Tie as tie
 
-abbrev invariant_loop : tie.invariant_loop
+abbrev invariant_loop : tie.invariant-loop-i
 invariant_loop out₀ at n k rest₀ i₀ out rest i = (length out ≡ length out₀) × (at + k ≤ length out₀) × (i ≤ k)
 
-abbrev decreases_loop : tie.decreases_loop
+abbrev decreases_loop : tie.decreases-loop-i
 decreases_loop out₀ at n k rest₀ i₀ out rest i = i
 
-has-room-requires : tie.Need-has_room-requires invariant_loop decreases_loop
-has-room-requires c κs = search rules
+has_room-requires : tie.Need-has_room-requires invariant_loop decreases_loop
+has_room-requires c κs = search rules
 
-returns : tie.Need-returns-then-not-has_room invariant_loop decreases_loop
+returns-then-not-has_room : tie.Need-returns-then-not-has_room invariant_loop decreases_loop
+returns-then-not-has_room c = search rules
+
+loop-i-init : tie.Need-loop-i-init invariant_loop decreases_loop
+loop-i-init c = (refl, room _ _ _ c.before.has_room.ensures c.if-not-has_room.false, omega arith)
+
+overflow_sub-i : tie.Need-overflow_sub-i invariant_loop decreases_loop
+overflow_sub-i c = search rules
+
+overflow_cast-out : tie.Need-overflow_cast-out invariant_loop decreases_loop
+overflow_cast-out c = search rules
+
+overflow_add-out : tie.Need-overflow_add-out invariant_loop decreases_loop
+overflow_add-out c = search rules
+
+overflow_add-out-in-loop-i : tie.Need-overflow_add-out-in-loop-i invariant_loop decreases_loop
+overflow_add-out-in-loop-i c = search rules
+
+bounds-out-at : tie.Need-bounds-out-at invariant_loop decreases_loop
+bounds-out-at c = search rules
+
+loop-i-smaller : tie.Need-loop-i-smaller invariant_loop decreases_loop
+loop-i-smaller c = search rules
+
+loop-i-preserved : tie.Need-loop-i-preserved invariant_loop decreases_loop
+loop-i-preserved c = search rules
+
+overflow_add-result : tie.Need-overflow_add-result invariant_loop decreases_loop
+overflow_add-result c = search rules
+
+shape_of-out : tie.Need-shape_of-out invariant_loop decreases_loop
+shape_of-out c = search rules
+
+returns : tie.Need-returns invariant_loop decreases_loop
 returns c = search rules
-
-loop-holds : tie.Need-loop-i-init invariant_loop decreases_loop
-loop-holds c = (refl, room _ _ _ c.before.has_room.ensures c.if-not-has_room.false, omega arith)
-
-sub-i : tie.Need-overflow_sub-i invariant_loop decreases_loop
-sub-i c = search rules
-
-cast-out : tie.Need-overflow_cast-out invariant_loop decreases_loop
-cast-out c = search rules
-
-add-out : tie.Need-overflow_add-out invariant_loop decreases_loop
-add-out c = search rules
-
-add-out-2 : tie.Need-overflow_add-out-in-loop-i invariant_loop decreases_loop
-add-out-2 c = search rules
-
-slice-write-out : tie.Need-bounds-out-at invariant_loop decreases_loop
-slice-write-out c = search rules
-
-loop-less : tie.Need-loop-i-smaller invariant_loop decreases_loop
-loop-less c = search rules
-
-loop-again : tie.Need-loop-i-preserved invariant_loop decreases_loop
-loop-again c = search rules
-
-add-result : tie.Need-overflow_add-result invariant_loop decreases_loop
-add-result c = search rules
-
-same_length : tie.Need-shape_of-out invariant_loop decreases_loop
-same_length c = search rules
-
-returns-2 : tie.Need-returns invariant_loop decreases_loop
-returns-2 c = search rules
 
 pub put_digits_spec : {M : Type 1} → statement M
 put_digits_spec =
@@ -59,16 +59,16 @@ put_digits_spec =
     (tie.spec
     invariant_loop
     decreases_loop
-    has-room-requires
-    returns
-    loop-holds
-    sub-i
-    cast-out
-    add-out
-    add-out-2
-    slice-write-out
-    loop-less
-    loop-again
-    add-result
-    same_length
-    returns-2)
+    has_room-requires
+    returns-then-not-has_room
+    loop-i-init
+    overflow_sub-i
+    overflow_cast-out
+    overflow_add-out
+    overflow_add-out-in-loop-i
+    bounds-out-at
+    loop-i-smaller
+    loop-i-preserved
+    overflow_add-result
+    shape_of-out
+    returns)

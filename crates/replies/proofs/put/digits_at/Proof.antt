@@ -7,30 +7,30 @@ use Rattle.replies.specs.Writers.{fits_put, too_long}
 use Rattle.replies.proofs.put.digits_at.Statement.{statement}
 use Rattle.replies.proofs.put.digits_at.Tie as tie
 
-returns : tie.Need-returns-then-buffer-width
-returns c =
+returns-then-buffer-width : tie.Need-returns-then-buffer-width
+returns-then-buffer-width c =
     let a = c.before.before.args in
     too_long a.buffer-1.now a.at (digits_of a.width a.value) (rw (length_digits a.width a.value) (omega arith))
 
-sub-if2 : tie.Need-overflow_sub-buffer
-sub-if2 c = search rules
+overflow_sub-buffer : tie.Need-overflow_sub-buffer
+overflow_sub-buffer c = search rules
 
-returns-2 : tie.Need-returns-then-buffer-width-2
-returns-2 c =
+returns-then-buffer-width-2 : tie.Need-returns-then-buffer-width-2
+returns-then-buffer-width-2 c =
     let a = c.before.before.before.args in
     too_long a.buffer-1.now a.at (digits_of a.width a.value) (rw (length_digits a.width a.value) (omega arith))
 
-put-digits-requires : tie.Need-put_digits-requires
-put-digits-requires c κs = search rules
+put_digits-requires : tie.Need-put_digits-requires
+put_digits-requires c κs = search rules
 
-same_length : tie.Need-shape_of-buffer
-same_length c = search rules
+shape_of-buffer : tie.Need-shape_of-buffer
+shape_of-buffer c = search rules
 
-returns-3 : tie.Need-returns
-returns-3 c =
+returns : tie.Need-returns
+returns c =
     let put = c.before.before in
     let a = put.before.before.before.before.before.args in
     fits_put a.buffer-1.now a.at (digits_of a.width a.value) (rw (length_digits a.width a.value) (omega arith)) put.put_digits.ensures
 
 pub digits_at_spec : {M : Type 1} → statement M
-digits_at_spec = tie.close (tie.spec returns sub-if2 returns-2 put-digits-requires same_length returns-3)
+digits_at_spec = tie.close (tie.spec returns-then-buffer-width overflow_sub-buffer returns-then-buffer-width-2 put_digits-requires shape_of-buffer returns)

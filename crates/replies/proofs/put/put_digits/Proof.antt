@@ -11,41 +11,41 @@ use Rattle.replies.proofs.Stores.{digit_down, no_digits, done}
 use Rattle.replies.proofs.put.put_digits.Statement.{statement}
 use Rattle.replies.proofs.put.put_digits.Tie as tie
 
-abbrev invariant_loop : tie.invariant_loop
+abbrev invariant_loop : tie.invariant-loop-k
 invariant_loop buffer₀ at width value v₀ k₀ buffer v k = (length buffer ≡ length buffer₀) × (k ≤ width) × (sets buffer at (digits_of k v) ≡ sets buffer₀ at (digits_of width value))
 
-abbrev decreases_loop : tie.decreases_loop
+abbrev decreases_loop : tie.decreases-loop-k
 decreases_loop buffer₀ at width value v₀ k₀ buffer v k = k
 
-loop-holds : tie.Need-loop-k-init invariant_loop decreases_loop
-loop-holds c = (refl, le_refl _, refl)
+loop-k-init : tie.Need-loop-k-init invariant_loop decreases_loop
+loop-k-init c = (refl, le_refl _, refl)
 
-sub-k : tie.Need-overflow_sub-k invariant_loop decreases_loop
-sub-k c = omega arith
+overflow_sub-k : tie.Need-overflow_sub-k invariant_loop decreases_loop
+overflow_sub-k c = omega arith
 
-cast-buffer : tie.Need-overflow_cast-buffer invariant_loop decreases_loop
-cast-buffer c = omega arith
+overflow_cast-buffer : tie.Need-overflow_cast-buffer invariant_loop decreases_loop
+overflow_cast-buffer c = omega arith
 
-add-buffer : tie.Need-overflow_add-buffer invariant_loop decreases_loop
-add-buffer c = omega arith
+overflow_add-buffer : tie.Need-overflow_add-buffer invariant_loop decreases_loop
+overflow_add-buffer c = omega arith
 
-add-buffer-2 : tie.Need-overflow_add-buffer-in-loop-k invariant_loop decreases_loop
-add-buffer-2 c = omega arith
+overflow_add-buffer-in-loop-k : tie.Need-overflow_add-buffer-in-loop-k invariant_loop decreases_loop
+overflow_add-buffer-in-loop-k c = omega arith
 
-slice-write-buffer : tie.Need-bounds-buffer-at invariant_loop decreases_loop
-slice-write-buffer c = omega arith
+bounds-buffer-at : tie.Need-bounds-buffer-at invariant_loop decreases_loop
+bounds-buffer-at c = omega arith
 
-loop-less : tie.Need-loop-k-smaller invariant_loop decreases_loop
-loop-less c = omega arith
+loop-k-smaller : tie.Need-loop-k-smaller invariant_loop decreases_loop
+loop-k-smaller c = omega arith
 
-loop-again : tie.Need-loop-k-preserved invariant_loop decreases_loop
-loop-again c = (simp length-set c.before.loop-k.invariant.0, omega arith, digit_down _ _ _ _ c.loop-k-test.true ∙ c.before.loop-k.invariant.2)
+loop-k-preserved : tie.Need-loop-k-preserved invariant_loop decreases_loop
+loop-k-preserved c = (simp length-set c.before.loop-k.invariant.0, omega arith, digit_down _ _ _ _ c.loop-k-test.true ∙ c.before.loop-k.invariant.2)
 
-add-result : tie.Need-overflow_add-result invariant_loop decreases_loop
-add-result c = omega arith
+overflow_add-result : tie.Need-overflow_add-result invariant_loop decreases_loop
+overflow_add-result c = omega arith
 
-same_length : tie.Need-shape_of-buffer invariant_loop decreases_loop
-same_length c = c.before.loop-k.invariant.0
+shape_of-buffer : tie.Need-shape_of-buffer invariant_loop decreases_loop
+shape_of-buffer c = c.before.loop-k.invariant.0
 
 returns : tie.Need-returns invariant_loop decreases_loop
 returns c = record { stored = done (λ k. digits_of k c.before.loop-k.v) _ _ _ _ (no_digits _) c.loop-k-test.false c.before.loop-k.invariant.2; behind = refl; long = length_digits _ _ }
@@ -56,14 +56,14 @@ put_digits_spec =
     (tie.spec
     invariant_loop
     decreases_loop
-    loop-holds
-    sub-k
-    cast-buffer
-    add-buffer
-    add-buffer-2
-    slice-write-buffer
-    loop-less
-    loop-again
-    add-result
-    same_length
+    loop-k-init
+    overflow_sub-k
+    overflow_cast-buffer
+    overflow_add-buffer
+    overflow_add-buffer-in-loop-k
+    bounds-buffer-at
+    loop-k-smaller
+    loop-k-preserved
+    overflow_add-result
+    shape_of-buffer
     returns)

@@ -5,21 +5,21 @@ use borrow.Author.Rules.{rules}
 use Rattle.replies.proofs.put.put_letters.Statement.{statement}
 use Rattle.replies.proofs.put.put_letters.Tie as tie
 
-cast-put-pair : tie.Need-overflow_cast-letters
-cast-put-pair c = search rules
+overflow_cast-letters : tie.Need-overflow_cast-letters
+overflow_cast-letters c = search rules
 
-cast-put-pair-2 : tie.Need-overflow_cast-letters-2
-cast-put-pair-2 c = search rules
+overflow_cast-letters-2 : tie.Need-overflow_cast-letters-2
+overflow_cast-letters-2 c = search rules
 
-put-pair-requires : tie.Need-put_pair-requires
-put-pair-requires c κs = search rules
+put_pair-requires : tie.Need-put_pair-requires
+put_pair-requires c κs = search rules
 
-same_length : tie.Need-shape_of-buffer
-same_length c = search rules
+shape_of-buffer : tie.Need-shape_of-buffer
+shape_of-buffer c = search rules
 
 returns : tie.Need-returns
 returns c = letters (omega arith) c.before.before.put_pair.ensures
 
 pub put_letters_spec : {M : Type 1} → statement M
 put_letters_spec =
-    tie.close (tie.spec cast-put-pair cast-put-pair-2 put-pair-requires same_length returns)
+    tie.close (tie.spec overflow_cast-letters overflow_cast-letters-2 put_pair-requires shape_of-buffer returns)

@@ -9,35 +9,35 @@ use Rattle.replies.proofs.Stores.{space_down, done}
 use Rattle.replies.proofs.put.put_spaces.Statement.{statement}
 use Rattle.replies.proofs.put.put_spaces.Tie as tie
 
-abbrev invariant_loop : tie.invariant_loop
+abbrev invariant_loop : tie.invariant-loop-k
 invariant_loop buffer₀ at width k₀ buffer k = (length buffer ≡ length buffer₀) × (k ≤ width) × (sets buffer at (replicate k 32) ≡ sets buffer₀ at (replicate width 32))
 
-abbrev decreases_loop : tie.decreases_loop
+abbrev decreases_loop : tie.decreases-loop-k
 decreases_loop buffer₀ at width k₀ buffer k = k
 
-loop-holds : tie.Need-loop-k-init invariant_loop decreases_loop
-loop-holds c = (refl, le_refl _, refl)
+loop-k-init : tie.Need-loop-k-init invariant_loop decreases_loop
+loop-k-init c = (refl, le_refl _, refl)
 
-sub-k : tie.Need-overflow_sub-k invariant_loop decreases_loop
-sub-k c = omega arith
+overflow_sub-k : tie.Need-overflow_sub-k invariant_loop decreases_loop
+overflow_sub-k c = omega arith
 
-add-buffer : tie.Need-overflow_add-buffer invariant_loop decreases_loop
-add-buffer c = omega arith
+overflow_add-buffer : tie.Need-overflow_add-buffer invariant_loop decreases_loop
+overflow_add-buffer c = omega arith
 
-slice-write-buffer : tie.Need-bounds-buffer-at invariant_loop decreases_loop
-slice-write-buffer c = omega arith
+bounds-buffer-at : tie.Need-bounds-buffer-at invariant_loop decreases_loop
+bounds-buffer-at c = omega arith
 
-loop-less : tie.Need-loop-k-smaller invariant_loop decreases_loop
-loop-less c = omega arith
+loop-k-smaller : tie.Need-loop-k-smaller invariant_loop decreases_loop
+loop-k-smaller c = omega arith
 
-loop-again : tie.Need-loop-k-preserved invariant_loop decreases_loop
-loop-again c = (simp length-set c.before.loop-k.invariant.0, omega arith, space_down _ _ _ _ c.loop-k-test.true ∙ c.before.loop-k.invariant.2)
+loop-k-preserved : tie.Need-loop-k-preserved invariant_loop decreases_loop
+loop-k-preserved c = (simp length-set c.before.loop-k.invariant.0, omega arith, space_down _ _ _ _ c.loop-k-test.true ∙ c.before.loop-k.invariant.2)
 
-add-result : tie.Need-overflow_add-result invariant_loop decreases_loop
-add-result c = omega arith
+overflow_add-result : tie.Need-overflow_add-result invariant_loop decreases_loop
+overflow_add-result c = omega arith
 
-same_length : tie.Need-shape_of-buffer invariant_loop decreases_loop
-same_length c = c.before.loop-k.invariant.0
+shape_of-buffer : tie.Need-shape_of-buffer invariant_loop decreases_loop
+shape_of-buffer c = c.before.loop-k.invariant.0
 
 returns : tie.Need-returns invariant_loop decreases_loop
 returns c = record { stored = done (λ k. replicate k 32) _ _ _ _ refl c.loop-k-test.false c.before.loop-k.invariant.2; behind = refl; long = length-replicate _ _ }
@@ -48,12 +48,12 @@ put_spaces_spec =
     (tie.spec
     invariant_loop
     decreases_loop
-    loop-holds
-    sub-k
-    add-buffer
-    slice-write-buffer
-    loop-less
-    loop-again
-    add-result
-    same_length
+    loop-k-init
+    overflow_sub-k
+    overflow_add-buffer
+    bounds-buffer-at
+    loop-k-smaller
+    loop-k-preserved
+    overflow_add-result
+    shape_of-buffer
     returns)

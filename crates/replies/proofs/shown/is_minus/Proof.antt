@@ -7,17 +7,17 @@ use Rattle.whole.specs.Machine.{sfits_of}
 use Rattle.replies.proofs.shown.is_minus.Statement.{statement}
 use Rattle.replies.proofs.shown.is_minus.Tie as tie
 
-returns : tie.Need-returns-then-fit
-returns c = simp (c.if-fit.true, to_z-of_z c.before.ranges.shown)
+returns-then-fit : tie.Need-returns-then-fit
+returns-then-fit c = simp (c.if-fit.true, to_z-of_z c.before.ranges.shown)
 
-returns-2 : tie.Need-returns-then-x
-returns-2 c =
+returns-then-x : tie.Need-returns-then-x
+returns-then-x c =
     let fit = c.before.before.before in
     let f : SFits w32 fit.before.args.x.gross = search sfits_of in
     simp (fit.if-fit.false, c.before.before.if-x.true, to_z-of_z f)
 
-returns-3 : tie.Need-returns-else-x
-returns-3 c = search rules
+returns-else-x : tie.Need-returns-else-x
+returns-else-x c = search rules
 
 pub is_minus_spec : {M : Type 1} → statement M
-is_minus_spec = tie.close (tie.spec returns returns-2 returns-3)
+is_minus_spec = tie.close (tie.spec returns-then-fit returns-then-x returns-else-x)

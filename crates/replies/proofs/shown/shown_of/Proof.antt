@@ -10,20 +10,20 @@ use Rattle.outline.specs.Replies.{shown_of}
 use Rattle.replies.proofs.shown.shown_of.Statement.{statement}
 use Rattle.replies.proofs.shown.shown_of.Tie as tie
 
-is-fit-requires : tie.Need-is_fit-fit-requires
-is-fit-requires c κs = search rules
+is_fit-fit-requires : tie.Need-is_fit-fit-requires
+is_fit-fit-requires c κs = search rules
 
-shown-weight-requires : tie.Need-shown_weight-shown-requires
-shown-weight-requires c κs = search rules
+shown_weight-shown-requires : tie.Need-shown_weight-shown-requires
+shown_weight-shown-requires c κs = search rules
 
-shows-net-requires : tie.Need-shows_net-requires
-shows-net-requires c κs = search rules
+shows_net-requires : tie.Need-shows_net-requires
+shows_net-requires c κs = search rules
 
-is-minus-requires : tie.Need-is_minus-requires
-is-minus-requires c κs = search rules
+is_minus-requires : tie.Need-is_minus-requires
+is_minus-requires c κs = search rules
 
-cast-magnitude : tie.Need-overflow_cast-shown
-cast-magnitude c =
+overflow_cast-shown : tie.Need-overflow_cast-shown
+overflow_cast-shown c =
     let d = c.before.before.shown_weight-shown in
     cast_need (got {w = w32} d.result d.type-inv) (wider (sfits_of d.type-inv))
 
@@ -49,10 +49,10 @@ pub shown_of_spec : {M : Type 1} → statement M
 shown_of_spec =
     tie.close
     (tie.spec
-    is-fit-requires
-    shown-weight-requires
-    shows-net-requires
-    is-minus-requires
-    cast-magnitude
+    is_fit-fit-requires
+    shown_weight-shown-requires
+    shows_net-requires
+    is_minus-requires
+    overflow_cast-shown
     magnitude-requires
     returns)

@@ -10,20 +10,20 @@ use Rattle.replies.proofs.shown.shown_weight.Tie as tie
 enum_told : tie.Need-enum_told-1
 enum_told c = search rules
 
-enum-told-2 : tie.Need-enum_told-in-Net
-enum-told-2 c = search rules
+enum_told-in-Net : tie.Need-enum_told-in-Net
+enum_told-in-Net c = search rules
 
-returns : tie.Need-returns-in-Gross
-returns c =
+returns-in-Gross : tie.Need-returns-in-Gross
+returns-in-Gross c =
     let s = c.before.before.before in
     let f : SFits w32 s.args.x.gross = search sfits_of in
     simp (to_z-of_z f, c.before.enum_told-1.given.1)
 
-returns-2 : tie.Need-returns-in-Net
-returns-2 c =
+returns-in-Net : tie.Need-returns-in-Net
+returns-in-Net c =
     let s = c.before.before.before in
     let f : SFits w32 s.args.x.net = search sfits_of in
     simp (to_z-of_z f, c.before.enum_told-in-Net-1.given.1)
 
 pub shown_weight_spec : {M : Type 1} → statement M
-shown_weight_spec = tie.close (tie.spec enum_told enum-told-2 returns returns-2)
+shown_weight_spec = tie.close (tie.spec enum_told enum_told-in-Net returns-in-Gross returns-in-Net)

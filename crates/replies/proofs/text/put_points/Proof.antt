@@ -5,29 +5,29 @@ use borrow.Author.Rules.{rules}
 use Rattle.replies.proofs.text.put_points.Statement.{statement}
 use Rattle.replies.proofs.text.put_points.Tie as tie
 
-put-setpoint-requires : tie.Need-put_setpoint-n-requires
-put-setpoint-requires c κs = search rules
+put_setpoint-n-requires : tie.Need-put_setpoint-n-requires
+put_setpoint-n-requires c κs = search rules
 
-put-setpoint-requires-2 : tie.Need-put_setpoint-n-requires-2
-put-setpoint-requires-2 c κs = search rules
+put_setpoint-n-requires-2 : tie.Need-put_setpoint-n-requires-2
+put_setpoint-n-requires-2 c κs = search rules
 
-put-setpoint-requires-3 : tie.Need-put_setpoint-n-requires-3
-put-setpoint-requires-3 c κs = search rules
+put_setpoint-n-requires-3 : tie.Need-put_setpoint-n-requires-3
+put_setpoint-n-requires-3 c κs = search rules
 
-put-setpoint-requires-4 : tie.Need-put_setpoint-n-requires-4
-put-setpoint-requires-4 c κs = search rules
+put_setpoint-n-requires-4 : tie.Need-put_setpoint-n-requires-4
+put_setpoint-n-requires-4 c κs = search rules
 
-put-setpoint-requires-5 : tie.Need-put_setpoint-n-requires-5
-put-setpoint-requires-5 c κs = search rules
+put_setpoint-n-requires-5 : tie.Need-put_setpoint-n-requires-5
+put_setpoint-n-requires-5 c κs = search rules
 
-put-setpoint-requires-6 : tie.Need-put_setpoint-n-requires-6
-put-setpoint-requires-6 c κs = search rules
+put_setpoint-n-requires-6 : tie.Need-put_setpoint-n-requires-6
+put_setpoint-n-requires-6 c κs = search rules
 
-put-setpoint-requires-7 : tie.Need-put_setpoint-requires
-put-setpoint-requires-7 c κs = search rules
+put_setpoint-requires : tie.Need-put_setpoint-requires
+put_setpoint-requires c κs = search rules
 
-same_length : tie.Need-shape_of-buffer
-same_length c = search rules
+shape_of-buffer : tie.Need-shape_of-buffer
+shape_of-buffer c = search rules
 
 returns : tie.Need-returns
 unfolding points_text
@@ -45,12 +45,12 @@ pub put_points_spec : {M : Type 1} → statement M
 put_points_spec =
     tie.close
     (tie.spec
-    put-setpoint-requires
-    put-setpoint-requires-2
-    put-setpoint-requires-3
-    put-setpoint-requires-4
-    put-setpoint-requires-5
-    put-setpoint-requires-6
-    put-setpoint-requires-7
-    same_length
+    put_setpoint-n-requires
+    put_setpoint-n-requires-2
+    put_setpoint-n-requires-3
+    put_setpoint-n-requires-4
+    put_setpoint-n-requires-5
+    put_setpoint-n-requires-6
+    put_setpoint-requires
+    shape_of-buffer
     returns)

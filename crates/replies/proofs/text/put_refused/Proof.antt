@@ -5,14 +5,14 @@ use borrow.Author.Rules.{rules}
 use Rattle.replies.proofs.text.put_refused.Statement.{statement}
 use Rattle.replies.proofs.text.put_refused.Tie as tie
 
-put-letters-requires : tie.Need-put_letters-n-requires
-put-letters-requires c κs = search rules
+put_letters-n-requires : tie.Need-put_letters-n-requires
+put_letters-n-requires c κs = search rules
 
-put-digits-requires : tie.Need-put_digits-requires
-put-digits-requires c κs = search rules
+put_digits-requires : tie.Need-put_digits-requires
+put_digits-requires c κs = search rules
 
-same_length : tie.Need-shape_of-buffer
-same_length c = search rules
+shape_of-buffer : tie.Need-shape_of-buffer
+shape_of-buffer c = search rules
 
 returns : tie.Need-returns
 unfolding refused_text
@@ -20,4 +20,4 @@ returns c = more c.before.before.before.before.before.before.put_letters-n.ensur
 
 pub put_refused_spec : {M : Type 1} → statement M
 put_refused_spec =
-    tie.close (tie.spec put-letters-requires put-digits-requires same_length returns)
+    tie.close (tie.spec put_letters-n-requires put_digits-requires shape_of-buffer returns)

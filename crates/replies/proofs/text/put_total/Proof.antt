@@ -5,17 +5,17 @@ use borrow.Author.Rules.{rules}
 use Rattle.replies.proofs.text.put_total.Statement.{statement}
 use Rattle.replies.proofs.text.put_total.Tie as tie
 
-put-digits-requires : tie.Need-put_digits-n-requires
-put-digits-requires c κs = search rules
+put_digits-n-requires : tie.Need-put_digits-n-requires
+put_digits-n-requires c κs = search rules
 
-put-byte-requires : tie.Need-put_byte-n-requires
-put-byte-requires c κs = search rules
+put_byte-n-requires : tie.Need-put_byte-n-requires
+put_byte-n-requires c κs = search rules
 
-put-digits-requires-2 : tie.Need-put_digits-requires
-put-digits-requires-2 c κs = search rules
+put_digits-requires : tie.Need-put_digits-requires
+put_digits-requires c κs = search rules
 
-same_length : tie.Need-shape_of-buffer
-same_length c = search rules
+shape_of-buffer : tie.Need-shape_of-buffer
+shape_of-buffer c = search rules
 
 returns : tie.Need-returns
 unfolding total_text
@@ -24,4 +24,4 @@ returns c = more (more c.before.before.before.before.before.before.before.before
 pub put_total_spec : {M : Type 1} → statement M
 put_total_spec =
     tie.close
-    (tie.spec put-digits-requires put-byte-requires put-digits-requires-2 same_length returns)
+    (tie.spec put_digits-n-requires put_byte-n-requires put_digits-requires shape_of-buffer returns)

@@ -8,35 +8,35 @@ use borrow.Author.Rules.{rules}
 use Rattle.replies.proofs.text.put_weight.Statement.{statement}
 use Rattle.replies.proofs.text.put_weight.Tie as tie
 
-status-letters-requires : tie.Need-status_letters-requires
-status-letters-requires c κs = search rules
+status_letters-requires : tie.Need-status_letters-requires
+status_letters-requires c κs = search rules
 
-put-letters-requires : tie.Need-put_letters-n-requires
-put-letters-requires c κs = search rules
+put_letters-n-requires : tie.Need-put_letters-n-requires
+put_letters-n-requires c κs = search rules
 
-put-byte-requires : tie.Need-put_byte-n-requires
-put-byte-requires c κs = search rules
+put_byte-n-requires : tie.Need-put_byte-n-requires
+put_byte-n-requires c κs = search rules
 
-display-letters-requires : tie.Need-display_letters-requires
-display-letters-requires c κs = search rules
+display_letters-requires : tie.Need-display_letters-requires
+display_letters-requires c κs = search rules
 
-put-letters-requires-2 : tie.Need-put_letters-n-requires-2
-put-letters-requires-2 c κs = search rules
+put_letters-n-requires-2 : tie.Need-put_letters-n-requires-2
+put_letters-n-requires-2 c κs = search rules
 
-sign-byte-requires : tie.Need-sign_byte-requires
-sign-byte-requires c κs = search rules
+sign_byte-requires : tie.Need-sign_byte-requires
+sign_byte-requires c κs = search rules
 
-put-pair-requires : tie.Need-put_pair-n-requires
-put-pair-requires c κs = search rules
+put_pair-n-requires : tie.Need-put_pair-n-requires
+put_pair-n-requires c κs = search rules
 
-put-amount-requires : tie.Need-put_amount-n-requires
-put-amount-requires c κs = search rules
+put_amount-n-requires : tie.Need-put_amount-n-requires
+put_amount-n-requires c κs = search rules
 
-put-letters-requires-3 : tie.Need-put_letters-requires
-put-letters-requires-3 c κs = search rules
+put_letters-requires : tie.Need-put_letters-requires
+put_letters-requires c κs = search rules
 
-same_length : tie.Need-shape_of-buffer
-same_length c = search rules
+shape_of-buffer : tie.Need-shape_of-buffer
+shape_of-buffer c = search rules
 
 returns : tie.Need-returns
 unfolding weight_text
@@ -56,14 +56,14 @@ pub put_weight_spec : {M : Type 1} → statement M
 put_weight_spec =
     tie.close
     (tie.spec
-    status-letters-requires
-    put-letters-requires
-    put-byte-requires
-    display-letters-requires
-    put-letters-requires-2
-    sign-byte-requires
-    put-pair-requires
-    put-amount-requires
-    put-letters-requires-3
-    same_length
+    status_letters-requires
+    put_letters-n-requires
+    put_byte-n-requires
+    display_letters-requires
+    put_letters-n-requires-2
+    sign_byte-requires
+    put_pair-n-requires
+    put_amount-n-requires
+    put_letters-requires
+    shape_of-buffer
     returns)

@@ -8,11 +8,11 @@ use Rattle.whole.specs.Machine.{machine}
 use Rattle.setpoints.proofs.levels.is_at_near.Statement.{statement}
 use Rattle.setpoints.proofs.levels.is_at_near.Tie as tie
 
-cast-result : tie.Need-overflow_cast-result
-cast-result c = search machine
+overflow_cast-result : tie.Need-overflow_cast-result
+overflow_cast-result c = search machine
 
-cast-result-2 : tie.Need-overflow_cast-result-2
-cast-result-2 c = search rules
+overflow_cast-result-2 : tie.Need-overflow_cast-result-2
+overflow_cast-result-2 c = search rules
 
 returns : tie.Need-returns
 returns c =
@@ -20,4 +20,4 @@ returns c =
     λ i. le_z ((widened s.ranges.gross).read i) ((nat {w = w64} {n = s.args.p.near} (omega arith)).read i)
 
 pub is_at_near_spec : {M : Type 1} → statement M
-is_at_near_spec = tie.close (tie.spec cast-result cast-result-2 returns)
+is_at_near_spec = tie.close (tie.spec overflow_cast-result overflow_cast-result-2 returns)

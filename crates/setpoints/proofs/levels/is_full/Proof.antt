@@ -14,35 +14,35 @@ use Rattle.setpoints.proofs.levels.is_full.Tie as tie
 gross : (s : tie.Start) → SFits w32 s.args.x.gross
 gross s = search sfits_of
 
-is-fit-requires : tie.Need-is_fit-requires
-is-fit-requires c κs = search rules
+is_fit-requires : tie.Need-is_fit-requires
+is_fit-requires c κs = search rules
 
-returns : tie.Need-returns-then-not-is_fit
+returns-then-not-is_fit : tie.Need-returns-then-not-is_fit
 unfolding full_of
-returns c = simp (not-true c.before.is_fit.result c.if-not-is_fit.true, ← c.before.is_fit.ensures)
+returns-then-not-is_fit c = simp (not-true c.before.is_fit.result c.if-not-is_fit.true, ← c.before.is_fit.ensures)
 
 enum_told : tie.Need-enum_told-1
 enum_told c = search rules
 
-enum-told-2 : tie.Need-enum_told-in-Loss
-enum-told-2 c = search rules
+enum_told-in-Loss : tie.Need-enum_told-in-Loss
+enum_told-in-Loss c = search rules
 
-cast-below : tie.Need-overflow_cast-p
-cast-below c = search rules
+overflow_cast-p : tie.Need-overflow_cast-p
+overflow_cast-p c = search rules
 
-cast-below-2 : tie.Need-overflow_cast-x
-cast-below-2 c = search machine
+overflow_cast-x : tie.Need-overflow_cast-x
+overflow_cast-x c = search machine
 
 below-requires : tie.Need-below-requires
 below-requires c κs = search rules
 
-returns-2 : tie.Need-returns-in-Normal
+returns-in-Normal : tie.Need-returns-in-Normal
 unfolding full_of
-returns-2 c = simp (c.enum_told-1.given.1, not-false c.before.before.before.is_fit.result c.before.before.if-not-is_fit.false, ← c.before.before.before.is_fit.ensures)
+returns-in-Normal c = simp (c.enum_told-1.given.1, not-false c.before.before.before.is_fit.result c.before.before.if-not-is_fit.false, ← c.before.before.before.is_fit.ensures)
 
-returns-3 : tie.Need-returns-in-Loss
+returns-in-Loss : tie.Need-returns-in-Loss
 unfolding full_of
-returns-3 c =
+returns-in-Loss c =
     simp
     (c.below.ensures, c.before.before.before.before.enum_told-in-Loss-1.given.1, not-false c.before.before.before.before.before.before.before.is_fit.result c.before.before.before.before.before.before.if-not-is_fit.false, ← c.before.before.before.before.before.before.before.is_fit.ensures)
     (λ i. lt_z ((nat {w = w64} {n = c.before.before.before.before.before.before.before.before.args.p.optional} (omega arith)).read i) ((widened (gross c.before.before.before.before.before.before.before.before)).read i))
@@ -51,12 +51,12 @@ pub is_full_spec : {M : Type 1} → statement M
 is_full_spec =
     tie.close
     (tie.spec
-    is-fit-requires
-    returns
+    is_fit-requires
+    returns-then-not-is_fit
     enum_told
-    enum-told-2
-    cast-below
-    cast-below-2
+    enum_told-in-Loss
+    overflow_cast-p
+    overflow_cast-x
     below-requires
-    returns-2
-    returns-3)
+    returns-in-Normal
+    returns-in-Loss)

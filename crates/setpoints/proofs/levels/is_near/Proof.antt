@@ -12,19 +12,19 @@ use Rattle.setpoints.proofs.levels.is_near.Tie as tie
 gross : (s : tie.Start) → SFits w32 s.args.x.gross
 gross s = search sfits_of
 
-is-fit-requires : tie.Need-is_fit-requires
-is-fit-requires c κs = search rules
+is_fit-requires : tie.Need-is_fit-requires
+is_fit-requires c κs = search rules
 
-returns : tie.Need-returns-then-not-is_fit
+returns-then-not-is_fit : tie.Need-returns-then-not-is_fit
 unfolding near_of
-returns c = simp (not-true c.before.is_fit.result c.if-not-is_fit.true, ← c.before.is_fit.ensures)
+returns-then-not-is_fit c = simp (not-true c.before.is_fit.result c.if-not-is_fit.true, ← c.before.is_fit.ensures)
 
-is-at-near-requires : tie.Need-is_at_near-requires
-is-at-near-requires c κs = search rules
+is_at_near-requires : tie.Need-is_at_near-requires
+is_at_near-requires c κs = search rules
 
-returns-2 : tie.Need-returns
+returns : tie.Need-returns
 unfolding near_of
-returns-2 c =
+returns c =
     simp (
       c.is_at_near.ensures,
       to_z-of_z (gross c.before.before.before.before),
@@ -33,4 +33,4 @@ returns-2 c =
     )
 
 pub is_near_spec : {M : Type 1} → statement M
-is_near_spec = tie.close (tie.spec is-fit-requires returns is-at-near-requires returns-2)
+is_near_spec = tie.close (tie.spec is_fit-requires returns-then-not-is_fit is_at_near-requires returns)

@@ -11,14 +11,14 @@ use Rattle.settings.proofs.ranges.analog_fits.Tie as tie
 held : (s : tie.Start) → Held s.args.g
 held s = search sfits_of
 
-is-from-to-requires : tie.Need-is_from_to-requires
-is-from-to-requires c κs = search rules
+is_from_to-requires : tie.Need-is_from_to-requires
+is_from_to-requires c κs = search rules
 
-is-within-requires : tie.Need-is_within-requires
-is-within-requires c κs = search rules
+is_within-requires : tie.Need-is_within-requires
+is_within-requires c κs = search rules
 
-is-within-requires-2 : tie.Need-is_within-requires-2
-is-within-requires-2 c κs = search rules
+is_within-requires-2 : tie.Need-is_within-requires-2
+is_within-requires-2 c κs = search rules
 
 returns : tie.Need-returns
 unfolding analog_fits
@@ -36,4 +36,4 @@ returns c =
 
 pub analog_fits_spec : {M : Type 1} → statement M
 analog_fits_spec =
-    tie.close (tie.spec is-from-to-requires is-within-requires is-within-requires-2 returns)
+    tie.close (tie.spec is_from_to-requires is_within-requires is_within-requires-2 returns)

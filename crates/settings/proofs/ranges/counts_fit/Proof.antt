@@ -19,17 +19,17 @@ held s = search sfits_of
 times : (s : tie.Start) (k : ℕ) → k ≤ 10 → SFits w64 (s.args.g.weight *ℤ pos k)
 times s k l = mul_fits w64 (2 ^ 31) 10 s.args.g.weight k (abs_fits w32 (held s).weight) l tt
 
-cast-least : tie.Need-overflow_cast-least
-cast-least c = let f = (held c.before.before).weight in cast_need (arg f) (wider f)
+overflow_cast-least : tie.Need-overflow_cast-least
+overflow_cast-least c = let f = (held c.before.before).weight in cast_need (arg f) (wider f)
 
-mul-least : tie.Need-overflow_mul-least
-mul-least c = let s = c.before.before in simp (widened (held s).weight).read (times s _ (omega arith))
+overflow_mul-least : tie.Need-overflow_mul-least
+overflow_mul-least c = let s = c.before.before in simp (widened (held s).weight).read (times s _ (omega arith))
 
-is-within-requires : tie.Need-is_within-requires
-is-within-requires c κs = search rules
+is_within-requires : tie.Need-is_within-requires
+is_within-requires c κs = search rules
 
-is-within-requires-2 : tie.Need-is_within-requires-2
-is-within-requires-2 c κs = search rules
+is_within-requires-2 : tie.Need-is_within-requires-2
+is_within-requires-2 c κs = search rules
 
 difference-requires : tie.Need-difference-requires
 difference-requires c κs = search rules
@@ -53,9 +53,9 @@ pub counts_fit_spec : {M : Type 1} → statement M
 counts_fit_spec =
     tie.close
     (tie.spec
-    cast-least
-    mul-least
-    is-within-requires
-    is-within-requires-2
+    overflow_cast-least
+    overflow_mul-least
+    is_within-requires
+    is_within-requires-2
     difference-requires
     returns)

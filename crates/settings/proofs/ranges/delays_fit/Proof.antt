@@ -10,20 +10,20 @@ use Rattle.settings.proofs.ranges.delays_fit.Tie as tie
 held : (s : tie.Start) → Held s.args.g
 held s = search sfits_of
 
-is-from-to-requires : tie.Need-is_from_to-requires
-is-from-to-requires c κs = search rules
+is_from_to-requires : tie.Need-is_from_to-requires
+is_from_to-requires c κs = search rules
 
-is-from-to-requires-2 : tie.Need-is_from_to-requires-2
-is-from-to-requires-2 c κs = search rules
+is_from_to-requires-2 : tie.Need-is_from_to-requires-2
+is_from_to-requires-2 c κs = search rules
 
-is-from-to-requires-3 : tie.Need-is_from_to-requires-3
-is-from-to-requires-3 c κs = search rules
+is_from_to-requires-3 : tie.Need-is_from_to-requires-3
+is_from_to-requires-3 c κs = search rules
 
-is-from-to-requires-4 : tie.Need-is_from_to-requires-4
-is-from-to-requires-4 c κs = search rules
+is_from_to-requires-4 : tie.Need-is_from_to-requires-4
+is_from_to-requires-4 c κs = search rules
 
-is-from-to-requires-5 : tie.Need-is_from_to-requires-5
-is-from-to-requires-5 c κs = search rules
+is_from_to-requires-5 : tie.Need-is_from_to-requires-5
+is_from_to-requires-5 c κs = search rules
 
 returns : tie.Need-returns
 unfolding delays_fit
@@ -46,9 +46,9 @@ pub delays_fit_spec : {M : Type 1} → statement M
 delays_fit_spec =
     tie.close
     (tie.spec
-    is-from-to-requires
-    is-from-to-requires-2
-    is-from-to-requires-3
-    is-from-to-requires-4
-    is-from-to-requires-5
+    is_from_to-requires
+    is_from_to-requires-2
+    is_from_to-requires-3
+    is_from_to-requires-4
+    is_from_to-requires-5
     returns)

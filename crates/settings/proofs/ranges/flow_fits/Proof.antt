@@ -10,8 +10,8 @@ use Rattle.settings.proofs.ranges.flow_fits.Tie as tie
 held : (s : tie.Start) → Held s.args.g
 held s = search sfits_of
 
-is-from-to-requires : tie.Need-is_from_to-requires
-is-from-to-requires c κs = search rules
+is_from_to-requires : tie.Need-is_from_to-requires
+is_from_to-requires c κs = search rules
 
 returns : tie.Need-returns
 unfolding flow_fits
@@ -20,4 +20,4 @@ returns c =
     simp (c.is_from_to.ensures, to_z-of_z h.flow)
 
 pub flow_fits_spec : {M : Type 1} → statement M
-flow_fits_spec = tie.close (tie.spec is-from-to-requires returns)
+flow_fits_spec = tie.close (tie.spec is_from_to-requires returns)

@@ -7,17 +7,17 @@ use Rattle.whole.specs.Bits.{nat, widened}
 use Rattle.settings.proofs.ranges.is_from_to.Statement.{statement}
 use Rattle.settings.proofs.ranges.is_from_to.Tie as tie
 
-cast-w : tie.Need-overflow_cast-w
-cast-w c = search machine
+overflow_cast-w : tie.Need-overflow_cast-w
+overflow_cast-w c = search machine
 
-cast-result : tie.Need-overflow_cast-result
-cast-result c = search rules
+overflow_cast-result : tie.Need-overflow_cast-result
+overflow_cast-result c = search rules
 
-cast-result-2 : tie.Need-overflow_cast-result-2
-cast-result-2 c = search rules
+overflow_cast-result-2 : tie.Need-overflow_cast-result-2
+overflow_cast-result-2 c = search rules
 
 returns : tie.Need-returns
 returns c = simp ((widened c.fits.x).read, (nat {w = w64} {n = c.args.a} (omega arith)).read, (nat {w = w64} {n = c.args.b} (omega arith)).read)
 
 pub is_from_to_spec : {M : Type 1} → statement M
-is_from_to_spec = tie.close (tie.spec cast-w cast-result cast-result-2 returns)
+is_from_to_spec = tie.close (tie.spec overflow_cast-w overflow_cast-result overflow_cast-result-2 returns)

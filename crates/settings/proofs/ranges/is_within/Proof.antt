@@ -5,8 +5,8 @@ use Rattle.whole.specs.Bits.{widened}
 use Rattle.settings.proofs.ranges.is_within.Statement.{statement}
 use Rattle.settings.proofs.ranges.is_within.Tie as tie
 
-cast-magnitude : tie.Need-overflow_cast-x
-cast-magnitude c = search machine
+overflow_cast-x : tie.Need-overflow_cast-x
+overflow_cast-x c = search machine
 
 magnitude-requires : tie.Need-magnitude-requires
 magnitude-requires c κs = search rules
@@ -15,4 +15,4 @@ returns : tie.Need-returns
 returns c = simp (c.magnitude.ensures, (widened c.before.fits.x).read)
 
 pub is_within_spec : {M : Type 1} → statement M
-is_within_spec = tie.close (tie.spec cast-magnitude magnitude-requires returns)
+is_within_spec = tie.close (tie.spec overflow_cast-x magnitude-requires returns)

@@ -4,41 +4,41 @@ use Rattle.outline.specs.Settings.{settings_fit}
 use Rattle.settings.proofs.ranges.settings_fit.Statement.{statement}
 use Rattle.settings.proofs.ranges.settings_fit.Tie as tie
 
-counts-fit-requires : tie.Need-counts_fit-requires
-counts-fit-requires c κs = search rules
+counts_fit-requires : tie.Need-counts_fit-requires
+counts_fit-requires c κs = search rules
 
-capacity-fits-requires : tie.Need-capacity_fits-requires
-capacity-fits-requires c κs = search rules
+capacity_fits-requires : tie.Need-capacity_fits-requires
+capacity_fits-requires c κs = search rules
 
-division-fits-requires : tie.Need-division_fits-requires
-division-fits-requires c κs = search rules
+division_fits-requires : tie.Need-division_fits-requires
+division_fits-requires c κs = search rules
 
-zero-range-fits-requires : tie.Need-zero_range_fits-requires
-zero-range-fits-requires c κs = search rules
+zero_range_fits-requires : tie.Need-zero_range_fits-requires
+zero_range_fits-requires c κs = search rules
 
-tracking-fits-requires : tie.Need-tracking_fits-requires
-tracking-fits-requires c κs = search rules
+tracking_fits-requires : tie.Need-tracking_fits-requires
+tracking_fits-requires c κs = search rules
 
-stability-fits-requires : tie.Need-stability_fits-requires
-stability-fits-requires c κs = search rules
+stability_fits-requires : tie.Need-stability_fits-requires
+stability_fits-requires c κs = search rules
 
-mode-fits-requires : tie.Need-mode_fits-requires
-mode-fits-requires c κs = search rules
+mode_fits-requires : tie.Need-mode_fits-requires
+mode_fits-requires c κs = search rules
 
-delays-fit-requires : tie.Need-delays_fit-requires
-delays-fit-requires c κs = search rules
+delays_fit-requires : tie.Need-delays_fit-requires
+delays_fit-requires c κs = search rules
 
-flow-fits-requires : tie.Need-flow_fits-requires
-flow-fits-requires c κs = search rules
+flow_fits-requires : tie.Need-flow_fits-requires
+flow_fits-requires c κs = search rules
 
-address-fits-requires : tie.Need-address_fits-requires
-address-fits-requires c κs = search rules
+address_fits-requires : tie.Need-address_fits-requires
+address_fits-requires c κs = search rules
 
-analog-fits-requires : tie.Need-analog_fits-requires
-analog-fits-requires c κs = search rules
+analog_fits-requires : tie.Need-analog_fits-requires
+analog_fits-requires c κs = search rules
 
-discharge-fits-requires : tie.Need-discharge_fits-requires
-discharge-fits-requires c κs = search rules
+discharge_fits-requires : tie.Need-discharge_fits-requires
+discharge_fits-requires c κs = search rules
 
 returns : tie.Need-returns
 unfolding settings_fit
@@ -62,16 +62,16 @@ pub settings_fit_spec : {M : Type 1} → statement M
 settings_fit_spec =
     tie.close
     (tie.spec
-    counts-fit-requires
-    capacity-fits-requires
-    division-fits-requires
-    zero-range-fits-requires
-    tracking-fits-requires
-    stability-fits-requires
-    mode-fits-requires
-    delays-fit-requires
-    flow-fits-requires
-    address-fits-requires
-    analog-fits-requires
-    discharge-fits-requires
+    counts_fit-requires
+    capacity_fits-requires
+    division_fits-requires
+    zero_range_fits-requires
+    tracking_fits-requires
+    stability_fits-requires
+    mode_fits-requires
+    delays_fit-requires
+    flow_fits-requires
+    address_fits-requires
+    analog_fits-requires
+    discharge_fits-requires
     returns)

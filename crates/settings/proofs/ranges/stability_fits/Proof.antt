@@ -10,11 +10,11 @@ use Rattle.settings.proofs.ranges.stability_fits.Tie as tie
 held : (s : tie.Start) → Held s.args.g
 held s = search sfits_of
 
-is-from-to-requires : tie.Need-is_from_to-requires
-is-from-to-requires c κs = search rules
+is_from_to-requires : tie.Need-is_from_to-requires
+is_from_to-requires c κs = search rules
 
-is-from-to-requires-2 : tie.Need-is_from_to-requires-2
-is-from-to-requires-2 c κs = search rules
+is_from_to-requires-2 : tie.Need-is_from_to-requires-2
+is_from_to-requires-2 c κs = search rules
 
 returns : tie.Need-returns
 unfolding stability_fits
@@ -28,4 +28,4 @@ returns c =
     )
 
 pub stability_fits_spec : {M : Type 1} → statement M
-stability_fits_spec = tie.close (tie.spec is-from-to-requires is-from-to-requires-2 returns)
+stability_fits_spec = tie.close (tie.spec is_from_to-requires is_from_to-requires-2 returns)

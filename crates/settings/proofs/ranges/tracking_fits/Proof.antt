@@ -10,14 +10,14 @@ use Rattle.settings.proofs.ranges.tracking_fits.Tie as tie
 held : (s : tie.Start) → Held s.args.g
 held s = search sfits_of
 
-is-from-to-requires : tie.Need-is_from_to-requires
-is-from-to-requires c κs = search rules
+is_from_to-requires : tie.Need-is_from_to-requires
+is_from_to-requires c κs = search rules
 
-is-from-to-requires-2 : tie.Need-is_from_to-requires-2
-is-from-to-requires-2 c κs = search rules
+is_from_to-requires-2 : tie.Need-is_from_to-requires-2
+is_from_to-requires-2 c κs = search rules
 
-is-from-to-requires-3 : tie.Need-is_from_to-requires-3
-is-from-to-requires-3 c κs = search rules
+is_from_to-requires-3 : tie.Need-is_from_to-requires-3
+is_from_to-requires-3 c κs = search rules
 
 returns : tie.Need-returns
 unfolding tracking_fits
@@ -34,4 +34,4 @@ returns c =
 
 pub tracking_fits_spec : {M : Type 1} → statement M
 tracking_fits_spec =
-    tie.close (tie.spec is-from-to-requires is-from-to-requires-2 is-from-to-requires-3 returns)
+    tie.close (tie.spec is_from_to-requires is_from_to-requires-2 is_from_to-requires-3 returns)

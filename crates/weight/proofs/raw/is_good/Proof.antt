@@ -27,20 +27,20 @@ rest x n h = go (le_z x (pos n)) refl
     go true e = e ∙ sym (le-leb (nat_abs x) n (within x n h e))
     go false e = e ∙ sym (lt-leb (nat_abs x) n (above x n e))
 
-sub-if1 : tie.Need-overflow_sub-t-3
-sub-if1 c = search rules
+overflow_sub-t-3 : tie.Need-overflow_sub-t-3
+overflow_sub-t-3 c = search rules
 
-returns : tie.Need-returns-then-count
-returns c =
+returns-then-count : tie.Need-returns-then-count
+returns-then-count c =
     let s = c.before in
     let e = to_z-of_z s.ranges.count in
     ap (λ (x : ℤ). le_z x (pos count_limit)) e ∙ rest s.args.count count_limit (ap (le_z (neg_ℤ (pos count_limit))) (sym e) ∙ c.if-count.true)
 
-returns-2 : tie.Need-returns-else-count
-returns-2 c =
+returns-else-count : tie.Need-returns-else-count
+returns-else-count c =
     let s = c.before in
     let e = to_z-of_z s.ranges.count in
     c.if-count.false ∙ sym (lt-leb (nat_abs s.args.count) count_limit (below s.args.count count_limit (ap (le_z (neg_ℤ (pos count_limit))) (sym e) ∙ c.if-count.false)))
 
 pub is_good_spec : {M : Type 1} → statement M
-is_good_spec = tie.close (tie.spec sub-if1 returns returns-2)
+is_good_spec = tie.close (tie.spec overflow_sub-t-3 returns-then-count returns-else-count)

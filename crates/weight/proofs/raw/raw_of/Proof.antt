@@ -29,31 +29,31 @@ size c = simp (c.magnitude.ensures, (raw c.before).read)
 fits : (c : tie.Then-magnitude-le-RAW_LIMIT) → SFits w32 (raw_at c.before.before.before.before.before)
 fits c = fits_abs w32 (omega (arith, size c.before))
 
-is-good-requires : tie.Need-is_good-requires
-is-good-requires c κs = search rules
+is_good-requires : tie.Need-is_good-requires
+is_good-requires c κs = search rules
 
-returns : tie.Need-returns-then-not-is_good
+returns-then-not-is_good : tie.Need-returns-then-not-is_good
 unfolding raw_of
-returns c = simp (sym (good c.before) ∙ not-true _ c.if-not-is_good.true)
+returns-then-not-is_good c = simp (sym (good c.before) ∙ not-true _ c.if-not-is_good.true)
 
-tenths-requires : tie.Need-tenths-raw-requires
-tenths-requires c κs = search rules
+tenths-raw-requires : tie.Need-tenths-raw-requires
+tenths-raw-requires c κs = search rules
 
 magnitude-requires : tie.Need-magnitude-requires
 magnitude-requires c κs = search rules
 
-cast-t8 : tie.Need-overflow_cast-result
-cast-t8 c = cast_need (raw c.before.before) (fits c)
+overflow_cast-result : tie.Need-overflow_cast-result
+overflow_cast-result c = cast_need (raw c.before.before) (fits c)
 
-returns-2 : tie.Need-returns-then-magnitude-le-RAW_LIMIT
+returns-then-magnitude-le-RAW_LIMIT : tie.Need-returns-then-magnitude-le-RAW_LIMIT
 unfolding raw_of
-returns-2 c =
+returns-then-magnitude-le-RAW_LIMIT c =
     let e = c.before.before.before in
     simp ((cast (raw c.before.before) (fits c)).read, sym (good e.before) ∙ not-false _ e.if-not-is_good.false, inside _ (raw_at e.before.before) (size c.before) c.if-magnitude-le-RAW_LIMIT.true)
 
-returns-3 : tie.Need-returns-else-magnitude-le-RAW_LIMIT
+returns-else-magnitude-le-RAW_LIMIT : tie.Need-returns-else-magnitude-le-RAW_LIMIT
 unfolding raw_of
-returns-3 c =
+returns-else-magnitude-le-RAW_LIMIT c =
     let e = c.before.before.before in
     simp (sym (good e.before) ∙ not-false _ e.if-not-is_good.false, outside _ (raw_at e.before.before) (size c.before) c.if-magnitude-le-RAW_LIMIT.false)
 
@@ -61,10 +61,10 @@ pub raw_of_spec : {M : Type 1} → statement M
 raw_of_spec =
     tie.close
     (tie.spec
-    is-good-requires
-    returns
-    tenths-requires
+    is_good-requires
+    returns-then-not-is_good
+    tenths-raw-requires
     magnitude-requires
-    cast-t8
-    returns-2
-    returns-3)
+    overflow_cast-result
+    returns-then-magnitude-le-RAW_LIMIT
+    returns-else-magnitude-le-RAW_LIMIT)

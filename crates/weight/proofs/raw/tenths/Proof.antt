@@ -31,19 +31,19 @@ from_zero c =
     let s = c.before.before in
     be (got c.difference-from_zero.result c.difference-from_zero.type-inv) (simp (c.difference-from_zero.ensures, to_z-of_z s.ranges.count, to_z-of_z (zero_fits s)))
 
-difference-requires : tie.Need-difference-from_zero-requires
-difference-requires c κs = search rules
+difference-from_zero-requires : tie.Need-difference-from_zero-requires
+difference-from_zero-requires c κs = search rules
 
-cast-weight : tie.Need-overflow_cast-weight
-cast-weight c = search rules
+overflow_cast-weight : tie.Need-overflow_cast-weight
+overflow_cast-weight c = search rules
 
-mul-weight : tie.Need-overflow_mul-weight
-mul-weight c =
+overflow_mul-weight : tie.Need-overflow_mul-weight
+overflow_mul-weight c =
     let s = c.before.before.before in
     mul_need (nat {n = 10} (omega arith)) (nat {n = s.args.cal.weight} (omega arith)) (weight_fits s)
 
-mul-nearest : tie.Need-overflow_mul-from_zero
-mul-nearest c =
+overflow_mul-from_zero : tie.Need-overflow_mul-from_zero
+overflow_mul-from_zero c =
     let s = c.before.before.before in
     mul_need (from_zero c.before) (weight s) (scaled_fits s)
 
@@ -60,4 +60,4 @@ returns c =
 pub tenths_spec : {M : Type 1} → statement M
 tenths_spec =
     tie.close
-    (tie.spec difference-requires cast-weight mul-weight mul-nearest nearest-requires returns)
+    (tie.spec difference-from_zero-requires overflow_cast-weight overflow_mul-weight overflow_mul-from_zero nearest-requires returns)

@@ -29,52 +29,52 @@ no_more a b h = omega arith
 difference-requires : tie.Need-difference-requires
 difference-requires c κs = search rules
 
-magnitude-requires : tie.Need-magnitude-change-requires
-magnitude-requires c κs = search rules
+magnitude-change-requires : tie.Need-magnitude-change-requires
+magnitude-change-requires c κs = search rules
 
-cast-if2 : tie.Need-overflow_cast-rule
-cast-if2 c = search rules
+overflow_cast-rule : tie.Need-overflow_cast-rule
+overflow_cast-rule c = search rules
 
-mul-if2 : tie.Need-overflow_mul-rule
-mul-if2 c = search rules
+overflow_mul-rule : tie.Need-overflow_mul-rule
+overflow_mul-rule c = search rules
 
-add-result : tie.Need-overflow_add-result
-add-result c = search rules
+overflow_add-result : tie.Need-overflow_add-result
+overflow_add-result c = search rules
 
-returns : tie.Need-returns-then-q-rule
+returns-then-q-rule : tie.Need-returns-then-q-rule
 unfolding steadied_of
-returns c =
+returns-then-q-rule c =
     let t = c.before.before.before.before in
     let m = t.before.before.before in
     simp (t.before.before.if-q.true, inside _ (change_of m) (change m) t.if-change-rule.true, one_more_lem _ _ c.before.if-q-rule.true)
 
-returns-2 : tie.Need-returns-then-change-rule
+returns-then-change-rule : tie.Need-returns-then-change-rule
 unfolding steadied_of
-returns-2 c =
+returns-then-change-rule c =
     let t = c.before.before.before in
     let m = t.before.before.before in
     simp (t.before.before.if-q.true, inside _ (change_of m) (change m) t.if-change-rule.true, no_more _ _ c.if-q-rule.false)
 
-returns-3 : tie.Need-returns-else-change-rule
+returns-else-change-rule : tie.Need-returns-else-change-rule
 unfolding steadied_of
-returns-3 c =
+returns-else-change-rule c =
     let m = c.before.before.before in
     simp (c.before.before.if-q.true, outside _ (change_of m) (change m) c.if-change-rule.false)
 
-returns-4 : tie.Need-returns-else-q
+returns-else-q : tie.Need-returns-else-q
 unfolding steadied_of
-returns-4 c = simp c.if-q.false
+returns-else-q c = simp c.if-q.false
 
 pub run_after_spec : {M : Type 1} → statement M
 run_after_spec =
     tie.close
     (tie.spec
     difference-requires
-    magnitude-requires
-    cast-if2
-    mul-if2
-    add-result
-    returns
-    returns-2
-    returns-3
-    returns-4)
+    magnitude-change-requires
+    overflow_cast-rule
+    overflow_mul-rule
+    overflow_add-result
+    returns-then-q-rule
+    returns-then-change-rule
+    returns-else-change-rule
+    returns-else-q)

@@ -11,23 +11,23 @@ use Rattle.weight.proofs.stability.steadied.Tie as tie
 enum_told : tie.Need-enum_told-1
 enum_told c = search rules
 
-enum-known-raw : tie.Need-enum_known-raw
-enum-known-raw c = search rules
+enum_known-raw : tie.Need-enum_known-raw
+enum_known-raw c = search rules
 
-run-after-requires : tie.Need-run_after-requires
-run-after-requires c κs = search rules
+run_after-requires : tie.Need-run_after-requires
+run_after-requires c κs = search rules
 
-returns : tie.Need-returns-in-Bad
+returns-in-Bad : tie.Need-returns-in-Bad
 unfolding steadied_of
-returns c = simp c.enum_told-1.given.1
+returns-in-Bad c = simp c.enum_told-1.given.1
 
-returns-2 : tie.Need-returns-in-Tenths
+returns-in-Tenths : tie.Need-returns-in-Tenths
 unfolding steadied_of
-returns-2 c =
+returns-in-Tenths c =
     let g = c.before.before in
     let f : SFits w32 g.raw-1.given.0.0 = search sfits_of in
     simp (c.run_after.ensures, to_z-of_z g.before.before.ranges.last, to_z-of_z f, g.raw-1.given.1)
 
 pub steadied_spec : {M : Type 1} → statement M
 steadied_spec =
-    tie.close (tie.spec enum_told enum-known-raw run-after-requires returns returns-2)
+    tie.close (tie.spec enum_told enum_known-raw run_after-requires returns-in-Bad returns-in-Tenths)

@@ -85,58 +85,58 @@ size c = c.magnitude.ensures ∙ ap nat_abs (moved (start (at c))).read
 small_fits : (c : tie.Then-magnitude-s) → SFits w32 (sum_of (start (at c.before.before)))
 small_fits c = fits_abs w32 (omega (arith, size c.before.before))
 
-cast-next : tie.Need-overflow_cast-next
-cast-next c = search rules
+overflow_cast-next : tie.Need-overflow_cast-next
+overflow_cast-next c = search rules
 
-add-next : tie.Need-overflow_add-next
-add-next c = search rules
+overflow_add-next : tie.Need-overflow_add-next
+overflow_add-next c = search rules
 
-cast-if1 : tie.Need-overflow_cast-s
-cast-if1 c = search rules
+overflow_cast-s : tie.Need-overflow_cast-s
+overflow_cast-s c = search rules
 
-cast-w : tie.Need-overflow_cast-w
-cast-w c = search rules
+overflow_cast-w : tie.Need-overflow_cast-w
+overflow_cast-w c = search rules
 
-returns : tie.Need-returns-then-next-s
-returns c =
+returns-then-next-s : tie.Need-returns-then-next-s
+returns-then-next-s c =
     let a = c.before.before.before.args in
     counts a.s a.w a.x (lt-leb a.s.tracking.time (suc a.w.counter) (omega arith))
 
-in-zero-range-requires : tie.Need-in_zero_range-requires
-in-zero-range-requires c κs = search rules
+in_zero_range-requires : tie.Need-in_zero_range-requires
+in_zero_range-requires c κs = search rules
 
-returns-2 : tie.Need-returns-then-not-in_zero_range
-returns-2 c =
+returns-then-not-in_zero_range : tie.Need-returns-then-not-in_zero_range
+returns-then-not-in_zero_range c =
     let e = c.before.before.before in
     let a = (start e).args in
     far a.s a.w a.x (full e) (sym (range c.before) ∙ not-true _ c.if-not-in_zero_range.true)
 
-cast-moved : tie.Need-overflow_cast-moved
-cast-moved c =
+overflow_cast-moved : tie.Need-overflow_cast-moved
+overflow_cast-moved c =
     let s = start c.before.before.before.before.before in
     cast_need (arg (tracked_fits s)) (wider (tracked_fits s))
 
-add-moved : tie.Need-overflow_add-moved
-add-moved c =
+overflow_add-moved : tie.Need-overflow_add-moved
+overflow_add-moved c =
     let s = start c.before.before.before.before.before.before.before in
     add_need (old s) (arg (fine_fits s)) (sum_fits s)
 
 magnitude-requires : tie.Need-magnitude-requires
 magnitude-requires c κs = search rules
 
-cast-if3 : tie.Need-overflow_cast-s-2
-cast-if3 c = search rules
+overflow_cast-s-2 : tie.Need-overflow_cast-s-2
+overflow_cast-s-2 c = search rules
 
-cast-w-2 : tie.Need-overflow_cast-w-then-magnitude-s
-cast-w-2 c =
+overflow_cast-w-then-magnitude-s : tie.Need-overflow_cast-w-then-magnitude-s
+overflow_cast-w-then-magnitude-s c =
     let t = c.before in
     cast_need (moved (start (at t.before.before))) (small_fits t)
 
 in_range : (c : tie.After-magnitude) → in_zero_range (start (at c)).args.s.range (start (at c)).args.x.raw ≡ true
 in_range c = sym (range (near c).before) ∙ not-false _ (near c).if-not-in_zero_range.false
 
-returns-3 : tie.Need-returns-then-magnitude-s
-returns-3 c =
+returns-then-magnitude-s : tie.Need-returns-then-magnitude-s
+returns-then-magnitude-s c =
     let t = c.before in
     let m = t.before.before in
     let s = start (at m) in
@@ -144,8 +144,8 @@ returns-3 c =
     (λ i. record { zero = to_z-of_z (raw_fits s) i; tracked = (cast (moved s) (small_fits t)).read i; counter = 0; tare = a.w.tare })
     ∙ moves a.s a.w a.x (full (at m)) (in_range m) (inside _ (sum_of s) (size m) t.if-magnitude-s.true)
 
-returns-4 : tie.Need-returns
-returns-4 c =
+returns : tie.Need-returns
+returns c =
     let m = c.before.before in
     let s = start (at m) in
     let a = s.args in
@@ -155,17 +155,17 @@ pub counted_up_spec : {M : Type 1} → statement M
 counted_up_spec =
     tie.close
     (tie.spec
-    cast-next
-    add-next
-    cast-if1
-    cast-w
-    returns
-    in-zero-range-requires
-    returns-2
-    cast-moved
-    add-moved
+    overflow_cast-next
+    overflow_add-next
+    overflow_cast-s
+    overflow_cast-w
+    returns-then-next-s
+    in_zero_range-requires
+    returns-then-not-in_zero_range
+    overflow_cast-moved
+    overflow_add-moved
     magnitude-requires
-    cast-if3
-    cast-w-2
-    returns-3
-    returns-4)
+    overflow_cast-s-2
+    overflow_cast-w-then-magnitude-s
+    returns-then-magnitude-s
+    returns)

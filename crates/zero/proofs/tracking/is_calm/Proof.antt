@@ -9,24 +9,24 @@ use Rattle.whole.specs.Machine.{sfits_of}
 use Rattle.zero.proofs.tracking.is_calm.Statement.{statement}
 use Rattle.zero.proofs.tracking.is_calm.Tie as tie
 
-is-fit-requires : tie.Need-is_fit-requires
-is-fit-requires c κs = search rules
+is_fit-requires : tie.Need-is_fit-requires
+is_fit-requires c κs = search rules
 
-returns : tie.Need-returns-then-not-is_fit
-returns c = simp (sym c.before.is_fit.ensures ∙ not-true _ c.if-not-is_fit.true)
+returns-then-not-is_fit : tie.Need-returns-then-not-is_fit
+returns-then-not-is_fit c = simp (sym c.before.is_fit.ensures ∙ not-true _ c.if-not-is_fit.true)
 
-returns-2 : tie.Need-returns-then-not-idle
-returns-2 c =
+returns-then-not-idle : tie.Need-returns-then-not-idle
+returns-then-not-idle c =
     let e = c.before in
     simp (sym e.before.is_fit.ensures ∙ not-false _ e.if-not-is_fit.false, not-true e.before.before.args.idle c.if-not-idle.true)
 
-returns-3 : tie.Need-returns-then-keyed
-returns-3 c =
+returns-then-keyed : tie.Need-returns-then-keyed
+returns-then-keyed c =
     let e = c.before.before in
     simp (sym e.before.is_fit.ensures ∙ not-false _ e.if-not-is_fit.false, not-false e.before.before.args.idle c.before.if-not-idle.false, c.if-keyed.true)
 
-returns-4 : tie.Need-returns-then-x
-returns-4 c =
+returns-then-x : tie.Need-returns-then-x
+returns-then-x c =
     let k = c.before in
     let e = k.before.before in
     simp (
@@ -39,11 +39,11 @@ returns-4 c =
 magnitude-requires : tie.Need-magnitude-requires
 magnitude-requires c κs = search rules
 
-cast-result : tie.Need-overflow_cast-result
-cast-result c = search rules
+overflow_cast-result : tie.Need-overflow_cast-result
+overflow_cast-result c = search rules
 
-returns-5 : tie.Need-returns
-returns-5 c =
+returns : tie.Need-returns
+returns c =
     let o = c.before.before.before in
     let k = o.before in
     let e = k.before.before in
@@ -60,4 +60,4 @@ returns-5 c =
 pub is_calm_spec : {M : Type 1} → statement M
 is_calm_spec =
     tie.close
-    (tie.spec is-fit-requires returns returns-2 returns-3 returns-4 magnitude-requires cast-result returns-5)
+    (tie.spec is_fit-requires returns-then-not-is_fit returns-then-not-idle returns-then-keyed returns-then-x magnitude-requires overflow_cast-result returns)

@@ -26,39 +26,39 @@ off c = sym c.before.is_tracking.ensures ∙ not-true _ c.if-not-is_tracking.tru
 on : (c : tie.Else-not-is_tracking) → tracking_on c.before.before.args.s.tracking ≡ true
 on c = sym c.before.is_tracking.ensures ∙ not-false _ c.if-not-is_tracking.false
 
-is-tracking-requires : tie.Need-is_tracking-requires
-is-tracking-requires c κs = search rules
+is_tracking-requires : tie.Need-is_tracking-requires
+is_tracking-requires c κs = search rules
 
-returns : tie.Need-returns-then-not-is_tracking
+returns-then-not-is_tracking : tie.Need-returns-then-not-is_tracking
 unfolding tracked_of
-returns c = simp (off c)
+returns-then-not-is_tracking c = simp (off c)
 
-is-calm-requires : tie.Need-is_calm-requires
-is-calm-requires c κs = search rules
+is_calm-requires : tie.Need-is_calm-requires
+is_calm-requires c κs = search rules
 
-counted-up-requires : tie.Need-counted_up-requires
-counted-up-requires c κs =
+counted_up-requires : tie.Need-counted_up-requires
+counted_up-requires c κs =
     let s = c.before.before.before.before in
     let a = s.args in
     omega (arith, width_small s, calm_small a.s.tracking a.idle a.keyed a.x (sym c.before.is_calm.ensures ∙ c.if-is_calm.true))
 
-returns-2 : tie.Need-returns-then-is_calm
+returns-then-is_calm : tie.Need-returns-then-is_calm
 unfolding tracked_of
-returns-2 c =
+returns-then-is_calm c =
     let m = c.before.before in
     simp (c.counted_up.ensures, on m.before, sym m.is_calm.ensures ∙ c.before.if-is_calm.true)
 
-returns-3 : tie.Need-returns
+returns : tie.Need-returns
 unfolding tracked_of
-returns-3 c = simp (on c.before.before, sym c.before.is_calm.ensures ∙ c.if-is_calm.false)
+returns c = simp (on c.before.before, sym c.before.is_calm.ensures ∙ c.if-is_calm.false)
 
 pub tracked_spec : {M : Type 1} → statement M
 tracked_spec =
     tie.close
     (tie.spec
-    is-tracking-requires
-    returns
-    is-calm-requires
-    counted-up-requires
-    returns-2
-    returns-3)
+    is_tracking-requires
+    returns-then-not-is_tracking
+    is_calm-requires
+    counted_up-requires
+    returns-then-is_calm
+    returns)
