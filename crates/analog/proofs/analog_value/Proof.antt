@@ -27,7 +27,7 @@ numbered b s w fit r e = (e, (ap analog_number e ∙ analog_number_lem b s w fit
 returns-then-not-fit : tie.Need-returns-then-not-fit
 unfolding analog_of
 returns-then-not-fit c =
-    let a = c.before.args in
+    let a = c.args in
     numbered a.board a.scale a.displayed a.fit _ (simp (not-true a.fit c.if-not-fit.true))
 
 is_fitted-requires : tie.Need-is_fitted-requires
@@ -38,10 +38,10 @@ unfolding analog_of
 returns-then-not-is_fitted c =
     let s = c.before.before.before in
     let a = s.args in
-    let none : fitted a.board ≡ false = sym c.before.is_fitted.ensures ∙ not-true _ c.if-not-is_fitted.true in
+    let none : fitted a.board ≡ false = sym c.is_fitted.ensures ∙ not-true _ c.if-not-is_fitted.true in
     let x = distance_of a.scale a.displayed in
     numbered a.board a.scale a.displayed a.fit _
-    (simp (not-false a.fit c.before.before.if-not-fit.false, no_value a.board x a.scale.span none))
+    (simp (not-false a.fit c.if-not-fit.false, no_value a.board x a.scale.span none))
 
 int_to_float-w : tie.Need-int_to_float-w
 int_to_float-w c = search rules
@@ -49,8 +49,8 @@ int_to_float-w c = search rules
 clipped-x-requires : tie.Need-clipped-x-requires
 clipped-x-requires c κs = search rules
 
-enum_told : tie.Need-enum_told-1
-enum_told c = search rules
+enum_told-1 : tie.Need-enum_told-1
+enum_told-1 c = search rules
 
 enum_told-in-Current : tie.Need-enum_told-in-Current
 enum_told-in-Current c = search rules
@@ -77,17 +77,17 @@ valued : (c : tie.After-clipped-x) (b : Board) → (start c).args.board ≡ b
 valued c b e =
     let s = start c in
     let a = s.args in
-    picked a.board a.scale a.displayed a.fit b c.clipped-x.result (not-false a.fit c.before.before.before.before.before.if-not-fit.false) e
+    picked a.board a.scale a.displayed a.fit b c.clipped-x.result (not-false a.fit c.if-not-fit.false) e
     (c.clipped-x.ensures ∙ ap (λ (z : ℤ). clip_of (sub binary64 (f64 z) a.scale.low) a.scale.span) (to_z-of_z s.fits.displayed))
 
 returns-in-None : tie.Need-returns-in-None
-returns-in-None c = answered c.before.before _ (valued c.before.before None c.enum_told-1.given.1)
+returns-in-None c = answered c.before _ (valued c.before None c.in-None.is)
 
 returns-in-Current : tie.Need-returns-in-Current
-returns-in-Current c = answered c.before.before _ (simp (is_16, is_4) (valued c.before.before Current c.enum_told-in-Current-1.given.1))
+returns-in-Current c = answered c.before _ (simp (is_16, is_4) (valued c.before Current c.in-Current.is))
 
 returns-in-Voltage : tie.Need-returns-in-Voltage
-returns-in-Voltage c = answered c.before.before _ (simp (is_10, is_0) (valued c.before.before Voltage c.enum_told-in-Voltage-1.given.1))
+returns-in-Voltage c = answered c.before _ (simp (is_10, is_0) (valued c.before Voltage c.in-Voltage.is))
 
 pub analog_value_spec : {M : Type 1} → statement M
 analog_value_spec =
@@ -98,7 +98,7 @@ analog_value_spec =
     returns-then-not-is_fitted
     int_to_float-w
     clipped-x-requires
-    enum_told
+    enum_told-1
     enum_told-in-Current
     enum_told-in-Voltage
     returns-in-None

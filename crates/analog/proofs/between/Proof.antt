@@ -9,11 +9,11 @@ returns-then-x-least c = simp c.if-x-least.true
 
 returns-then-most-x : tie.Need-returns-then-most-x
 unfolding between_of
-returns-then-most-x c = simp (c.before.if-x-least.false, c.if-most-x.true)
+returns-then-most-x c = simp (c.if-x-least.false, c.if-most-x.true)
 
 returns : tie.Need-returns
 unfolding between_of
-returns c = simp (c.before.if-x-least.false, c.if-most-x.false)
+returns c = simp (c.if-x-least.false, c.if-most-x.false)
 
 pub between_spec : {M : Type 1} → statement M
 between_spec = tie.close (tie.spec returns-then-x-least returns-then-most-x returns)

@@ -10,14 +10,14 @@ between-requires c κs = search rules
 
 returns-then-d : tie.Need-returns-then-d
 unfolding clip_of
-returns-then-d c = simp (← is_0, c.before.if-d.true) c.between.ensures
+returns-then-d c = simp (← is_0, c.if-d.true) c.between.ensures
 
 between-requires-2 : tie.Need-between-requires-2
 between-requires-2 c κs = search rules
 
 returns : tie.Need-returns
 unfolding clip_of
-returns c = simp (← is_0, c.before.if-d.false) c.between-2.ensures
+returns c = simp (← is_0, c.if-d.false) c.between-2.ensures
 
 pub clipped_spec : {M : Type 1} → statement M
 clipped_spec = tie.close (tie.spec between-requires returns-then-d between-requires-2 returns)

@@ -11,14 +11,14 @@ is_idle-requires c κs = search rules
 
 returns-then-is_idle : tie.Need-returns-then-is_idle
 unfolding advance_of
-returns-then-is_idle c = simp (c.if-is_idle.true, ← c.before.is_idle.ensures)
+returns-then-is_idle c = simp (c.if-is_idle.true, ← c.is_idle.ensures)
 
 fail-requires : tie.Need-fail-requires
 fail-requires c κs = search rules
 
 returns-then-unfit : tie.Need-returns-then-unfit
 unfolding advance_of
-returns-then-unfit c = simp (c.fail.ensures, c.before.if-unfit.true, c.before.before.if-is_idle.false, ← c.before.before.before.is_idle.ensures)
+returns-then-unfit c = simp (c.fail.ensures, c.if-unfit.true, c.if-is_idle.false, ← c.is_idle.ensures)
 
 is_discharging-requires : tie.Need-is_discharging-requires
 is_discharging-requires c κs = search rules

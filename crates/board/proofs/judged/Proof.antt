@@ -15,7 +15,7 @@ images_refusal-requires : tie.Need-images_refusal-requires
 images_refusal-requires c κs = search rules
 
 returns : tie.Need-returns
-returns c = c.images_refusal.ensures ∙ (λ i. images_refusal (c.before.before.given_refusal.ensures i) (c.before.bytes_refusal.ensures i))
+returns c = c.images_refusal.ensures ∙ (λ i. images_refusal (c.given_refusal.ensures i) (c.bytes_refusal.ensures i))
 
 pub judged_spec : {M : Type 1} → statement M
 judged_spec =

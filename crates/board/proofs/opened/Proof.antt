@@ -15,7 +15,7 @@ open-requires c κs = search rules
 
 returns : tie.Need-returns
 unfolding given_in
-returns c e = c.«open».ensures.0 ∙ ap open_of (c.before.given_at.ensures ∙ ap given_at (of_length _ _ e))
+returns c e = c.«open».ensures.0 ∙ ap open_of (c.given_at.ensures ∙ ap given_at (of_length _ _ e))
 
 pub opened_spec : {M : Type 1} → statement M
 opened_spec = tie.close (tie.spec given_at-requires open-requires returns)

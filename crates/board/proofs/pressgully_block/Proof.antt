@@ -24,8 +24,8 @@ shape_of-state-then-why-ne0 c = search rules
 returns-then-why-ne0 : tie.Need-returns-then-why-ne0
 returns-then-why-ne0 c =
     let a = c.before.before.before.before.before.args in
-    let e = c.before.judged-why.ensures in
-    let r = block-kept a.settings.now a.state-1.now a.counts.now a.contact _ (by_bytes _ _ (λ k. c.if-why-ne0.true (e ∙ k))) (λ k. c.if-why-ne0.true (e ∙ k)) in
+    let e = c.judged-why.ensures in
+    let r = block-kept a.settings.now a.state.now a.counts.now a.contact _ (by_bytes _ _ (λ k. c.if-why-ne0.true (e ∙ k))) (λ k. c.if-why-ne0.true (e ∙ k)) in
     (e ∙ r.0, r.1)
 
 is_possible-requires : tie.Need-is_possible-requires
@@ -38,16 +38,16 @@ returns-then-not-is_possible : tie.Need-returns-then-not-is_possible
 unfolding given_in
 returns-then-not-is_possible c =
     let a = c.before.before.before.before.before.before.before.before.args in
-    let w = sym c.before.before.before.before.judged-why.ensures ∙ c.before.before.before.if-why-ne0.false in
-    let p = sym (c.before.is_possible.ensures ∙ possible_here _ _ (first_given_lem a.settings.now a.state-1.now w) (first_image a.settings.now a.state-1.now w)) ∙ not-true _ c.if-not-is_possible.true in
-    let r = block-kept a.settings.now a.state-1.now a.counts.now a.contact 21 (by_ranges a.settings.now a.state-1.now w p) (λ k. absurd (omega arith)) in
+    let w = sym c.judged.ensures ∙ c.if1.false in
+    let p = sym (c.is_possible.ensures ∙ possible_here _ _ (first_given_lem a.settings.now a.state.now w) (first_image a.settings.now a.state.now w)) ∙ not-true _ c.if-not-is_possible.true in
+    let r = block-kept a.settings.now a.state.now a.counts.now a.contact 21 (by_ranges a.settings.now a.state.now w p) (λ k. absurd (omega arith)) in
     r
 
 opened-requires : tie.Need-opened-requires
 opened-requires c κs = search rules
 
-enum_told : tie.Need-enum_told-1
-enum_told c = search rules
+enum_told-1 : tie.Need-enum_told-1
+enum_told-1 c = search rules
 
 shape_of-state-in-Refused : tie.Need-shape_of-state-in-Refused
 shape_of-state-in-Refused c = search rules
@@ -56,11 +56,11 @@ returns-in-Refused : tie.Need-returns-in-Refused
 unfolding given_in
 returns-in-Refused c =
     let a = c.before.before.before.before.before.before.before.before.before.before.before.args in
-    let w = sym c.before.before.before.before.before.before.before.judged-why.ensures ∙ c.before.before.before.before.before.before.if-why-ne0.false in
-    let g = first_given_lem a.settings.now a.state-1.now w in
-    let p = sym (c.before.before.before.before.is_possible.ensures ∙ possible_here _ _ g (first_image a.settings.now a.state-1.now w)) ∙ not-false _ c.before.before.before.if-not-is_possible.false in
-    let o = sym (c.before.before.opened.ensures g) ∙ c.enum_told-1.given.1 in
-    let r = block-kept a.settings.now a.state-1.now a.counts.now a.contact 10 (both_settings _ _ (unrefused a.settings.now a.state-1.now w p) o) (λ k. absurd (omega arith)) in
+    let w = sym c.judged.ensures ∙ c.if1.false in
+    let g = first_given_lem a.settings.now a.state.now w in
+    let p = sym (c.is_possible.ensures ∙ possible_here _ _ g (first_image a.settings.now a.state.now w)) ∙ not-false _ c.if-not-is_possible.false in
+    let o = sym (c.opened.ensures g) ∙ c.in-Refused.is in
+    let r = block-kept a.settings.now a.state.now a.counts.now a.contact 10 (both_settings _ _ (unrefused a.settings.now a.state.now w p) o) (λ k. absurd (omega arith)) in
     r
 
 enum_known-s : tie.Need-enum_known-s
@@ -77,16 +77,16 @@ unfolding given_in block_by
 returns-in-Accepted c =
     let s = c.before.before.before.before.before.before.before.before.before.before.before.before.before.before.before.before in
     let a = s.args in
-    let w = sym c.before.before.before.before.before.before.before.before.before.before.before.before.judged-why.ensures ∙ c.before.before.before.before.before.before.before.before.before.before.before.if-why-ne0.false in
-    let g = first_given_lem a.settings.now a.state-1.now w in
-    let p = sym (c.before.before.before.before.before.before.before.before.before.is_possible.ensures ∙ possible_here _ _ g (first_image a.settings.now a.state-1.now w)) ∙ not-false _ c.before.before.before.before.before.before.before.before.if-not-is_possible.false in
-    let u = unrefused a.settings.now a.state-1.now w p in
-    let o = sym (c.before.before.before.before.before.before.before.opened.ensures g) ∙ c.before.before.before.before.before.s-1.given.1 in
-    let h = state_held a.settings.now a.state-1.now (λ i. (c.before.before.before.before.before.before.before.before.before.before.before.before.before.before.slice_known-1.given i).fits) u in
-    let r = block-done a.settings.now a.state-1.now a.counts.now a.contact (both_good _ _ _ u o) in
-    let b = c.before.before.run_block.ensures in
+    let w = sym c.judged.ensures ∙ c.if1.false in
+    let g = first_given_lem a.settings.now a.state.now w in
+    let p = sym (c.is_possible.ensures ∙ possible_here _ _ g (first_image a.settings.now a.state.now w)) ∙ not-false _ c.if-not-is_possible.false in
+    let u = unrefused a.settings.now a.state.now w p in
+    let o = sym (c.opened.ensures g) ∙ c.in-Accepted.is in
+    let h = state_held a.settings.now a.state.now (λ i. (c.slice-known.given i).fits) u in
+    let r = block-done a.settings.now a.state.now a.counts.now a.contact (both_good _ _ _ u o) in
+    let b = c.run_block.ensures in
     let same = same_block a.counts.now a.contact (sym (made_of _ _ o)) refl in
-    (b.0 _ h ∙ (λ i. block_number (same i).answer) ∙ r.0, b.1 _ h ∙ (λ i. image_of (same i).state-1) ∙ r.1)
+    (b.0 _ h ∙ (λ i. block_number (same i).answer) ∙ r.0, b.1 _ h ∙ (λ i. image_of (same i).state) ∙ r.1)
 
 pub pressgully_block_spec : {M : Type 1} → statement M
 pressgully_block_spec =
@@ -100,7 +100,7 @@ pressgully_block_spec =
     shape_of-state-then-not-is_possible
     returns-then-not-is_possible
     opened-requires
-    enum_told
+    enum_told-1
     shape_of-state-in-Refused
     returns-in-Refused
     enum_known-s

@@ -34,9 +34,9 @@ overflow_cast-result c = search rules
 
 returns-then-why-ne0 : tie.Need-returns-then-why-ne0
 returns-then-why-ne0 c =
-    let a = c.before.before.before.before.before.before.before.before.before.args in
-    let e = c.before.images_refusal-why.ensures ∙ (λ i. images_refusal (c.before.before.given_refusal.ensures i) ((c.before.before.before.images_refusal-bytes.ensures ∙ (λ j. images_refusal (c.before.before.before.before.before.length_refusal.ensures j) (c.before.before.before.before.earlier_refusal.ensures j))) i)) in
-    let r = grow_kept a.settings.now a.earlier.now a.state-1.now (λ k. c.if-why-ne0.true (e ∙ k)) in
+    let a = c.args in
+    let e = c.images_refusal-why.ensures ∙ (λ i. images_refusal (c.given_refusal.ensures i) ((c.images_refusal-bytes.ensures ∙ (λ j. images_refusal (c.length_refusal.ensures j) (c.earlier_refusal.ensures j))) i)) in
+    let r = grow_kept a.settings.now a.earlier.now a.state.now (λ k. c.if-why-ne0.true (e ∙ k)) in
     (e ∙ r.0, r.1)
 
 is_possible-requires : tie.Need-is_possible-requires
@@ -45,27 +45,27 @@ is_possible-requires c κs = search rules
 returns-then-not-is_possible : tie.Need-returns-then-not-is_possible
 unfolding given_in
 returns-then-not-is_possible c =
-    let a = c.before.before.before.before.before.before.before.before.before.before.before.args in
-    let e = c.before.before.before.images_refusal-why.ensures ∙ (λ i. images_refusal (c.before.before.before.before.given_refusal.ensures i) ((c.before.before.before.before.before.images_refusal-bytes.ensures ∙ (λ j. images_refusal (c.before.before.before.before.before.before.before.length_refusal.ensures j) (c.before.before.before.before.before.before.earlier_refusal.ensures j))) i)) in
-    let w = sym e ∙ c.before.before.if-why-ne0.false in
-    let p = sym (c.before.is_possible.ensures ∙ possible_here _ _ (grow-given a.settings.now a.earlier.now a.state-1.now w) (grow-earlier a.settings.now a.earlier.now a.state-1.now w)) ∙ not-true _ c.if-not-is_possible.true in
-    grow-ranges a.settings.now a.earlier.now a.state-1.now w p
+    let a = c.args in
+    let e = c.images_refusal-why.ensures ∙ (λ i. images_refusal (c.given_refusal.ensures i) ((c.images_refusal-bytes.ensures ∙ (λ j. images_refusal (c.length_refusal.ensures j) (c.earlier_refusal.ensures j))) i)) in
+    let w = sym e ∙ c.if-why-ne0.false in
+    let p = sym (c.is_possible.ensures ∙ possible_here _ _ (grow-given a.settings.now a.earlier.now a.state.now w) (grow-earlier a.settings.now a.earlier.now a.state.now w)) ∙ not-true _ c.if-not-is_possible.true in
+    grow-ranges a.settings.now a.earlier.now a.state.now w p
 
 opened-requires : tie.Need-opened-requires
 opened-requires c κs = search rules
 
-enum_told : tie.Need-enum_told-1
-enum_told c = search rules
+enum_told-1 : tie.Need-enum_told-1
+enum_told-1 c = search rules
 
 returns-in-Refused : tie.Need-returns-in-Refused
 unfolding given_in
 returns-in-Refused c =
-    let a = c.before.before.before.before.before.before.before.before.before.before.before.before.before.before.args in
-    let e = c.before.before.before.before.before.before.images_refusal-why.ensures ∙ (λ i. images_refusal (c.before.before.before.before.before.before.before.given_refusal.ensures i) ((c.before.before.before.before.before.before.before.before.images_refusal-bytes.ensures ∙ (λ j. images_refusal (c.before.before.before.before.before.before.before.before.before.before.length_refusal.ensures j) (c.before.before.before.before.before.before.before.before.before.earlier_refusal.ensures j))) i)) in
-    let w = sym e ∙ c.before.before.before.before.before.if-why-ne0.false in
-    let g = grow-given a.settings.now a.earlier.now a.state-1.now w in
-    let p = sym (c.before.before.before.before.is_possible.ensures ∙ possible_here _ _ g (grow-earlier a.settings.now a.earlier.now a.state-1.now w)) ∙ not-false _ c.before.before.before.if-not-is_possible.false in
-    grow-settings a.settings.now a.earlier.now a.state-1.now w p (sym (c.before.before.opened.ensures g) ∙ c.enum_told-1.given.1)
+    let a = c.args in
+    let e = c.images_refusal-why.ensures ∙ (λ i. images_refusal (c.given_refusal.ensures i) ((c.images_refusal-bytes.ensures ∙ (λ j. images_refusal (c.length_refusal.ensures j) (c.earlier_refusal.ensures j))) i)) in
+    let w = sym e ∙ c.if-why-ne0.false in
+    let g = grow-given a.settings.now a.earlier.now a.state.now w in
+    let p = sym (c.is_possible.ensures ∙ possible_here _ _ g (grow-earlier a.settings.now a.earlier.now a.state.now w)) ∙ not-false _ c.if-not-is_possible.false in
+    grow-settings a.settings.now a.earlier.now a.state.now w p (sym (c.opened.ensures g) ∙ c.in-Refused.is)
 
 enum_told-in-Accepted : tie.Need-enum_told-in-Accepted
 enum_told-in-Accepted c = search rules
@@ -85,16 +85,16 @@ shape_of-state-in-Accepted c = search rules
 returns-in-Accepted : tie.Need-returns-in-Accepted
 unfolding given_in open_state
 returns-in-Accepted c =
-    let a = c.before.before.before.before.before.before.before.before.before.before.before.before.before.before.before.before.before.before.before.before.before.before.before.before.before.before.args in
-    let e = c.before.before.before.before.before.before.before.before.before.before.before.before.before.before.before.before.before.before.images_refusal-why.ensures ∙ (λ i. images_refusal (c.before.before.before.before.before.before.before.before.before.before.before.before.before.before.before.before.before.before.before.given_refusal.ensures i) ((c.before.before.before.before.before.before.before.before.before.before.before.before.before.before.before.before.before.before.before.before.images_refusal-bytes.ensures ∙ (λ j. images_refusal (c.before.before.before.before.before.before.before.before.before.before.before.before.before.before.before.before.before.before.before.before.before.before.length_refusal.ensures j) (c.before.before.before.before.before.before.before.before.before.before.before.before.before.before.before.before.before.before.before.before.before.earlier_refusal.ensures j))) i)) in
-    let w = sym e ∙ c.before.before.before.before.before.before.before.before.before.before.before.before.before.before.before.before.before.if-why-ne0.false in
-    let g = grow-given a.settings.now a.earlier.now a.state-1.now w in
-    let k = grow-earlier a.settings.now a.earlier.now a.state-1.now w in
-    let p = sym (c.before.before.before.before.before.before.before.before.before.before.before.before.before.before.before.before.is_possible.ensures ∙ possible_here _ _ g k) ∙ not-false _ c.before.before.before.before.before.before.before.before.before.before.before.before.before.before.before.if-not-is_possible.false in
-    let r = grow-good a.settings.now a.earlier.now a.state-1.now w _ p (sym (c.before.before.before.before.before.before.before.before.before.before.before.before.before.before.opened.ensures g) ∙ c.before.before.before.before.before.before.before.before.before.before.before.before.enum_told-in-Accepted-1.given.1) in
-    let z = grow-state a.settings.now a.earlier.now a.state-1.now w in
-    let cleared = held_as_bytes (c.before.before.before.before.before.before.before.before.before.before.clear.ensures ∙ ap (λ (n : ℕ). replicate n 0) z.2) open_holds in
-    (r.0, grown_bytes a.earlier.now z.0 (c.before.before.put_batched.ensures z.1 _ (c.before.before.before.before.before.before.put_weighed.ensures z.1 _ cleared)) ∙ r.1)
+    let a = c.args in
+    let e = c.images_refusal-why.ensures ∙ (λ i. images_refusal (c.given_refusal.ensures i) ((c.images_refusal-bytes.ensures ∙ (λ j. images_refusal (c.length_refusal.ensures j) (c.earlier_refusal.ensures j))) i)) in
+    let w = sym e ∙ c.if-why-ne0.false in
+    let g = grow-given a.settings.now a.earlier.now a.state.now w in
+    let k = grow-earlier a.settings.now a.earlier.now a.state.now w in
+    let p = sym (c.is_possible.ensures ∙ possible_here _ _ g k) ∙ not-false _ c.if-not-is_possible.false in
+    let r = grow-good a.settings.now a.earlier.now a.state.now w _ p (sym (c.opened.ensures g) ∙ c.in-Accepted.is) in
+    let z = grow-state a.settings.now a.earlier.now a.state.now w in
+    let cleared = held_as_bytes (c.clear.ensures ∙ ap (λ (n : ℕ). replicate n 0) z.2) open_holds in
+    (r.0, grown_bytes a.earlier.now z.0 (c.put_batched.ensures z.1 _ (c.put_weighed.ensures z.1 _ cleared)) ∙ r.1)
 
 pub pressgully_grow_spec : {M : Type 1} → statement M
 pressgully_grow_spec =
@@ -110,7 +110,7 @@ pressgully_grow_spec =
     is_possible-requires
     returns-then-not-is_possible
     opened-requires
-    enum_told
+    enum_told-1
     returns-in-Refused
     enum_told-in-Accepted
     clear-requires

@@ -20,22 +20,22 @@ overflow_cast-result c = search rules
 
 returns-then-why-ne0 : tie.Need-returns-then-why-ne0
 returns-then-why-ne0 c =
-    let e = c.before.images_refusal-why.ensures ∙ (λ i. images_refusal (c.before.before.before.given_refusal.ensures i) (c.before.before.length_refusal.ensures i)) in
+    let e = c.images_refusal-why.ensures ∙ (λ i. images_refusal (c.given_refusal.ensures i) (c.length_refusal.ensures i)) in
     let r = open_images _ _ (λ k. c.if-why-ne0.true (e ∙ k)) in
     (e ∙ r.0, r.1)
 
 opened-requires : tie.Need-opened-requires
 opened-requires c κs = search rules
 
-enum_told : tie.Need-enum_told-1
-enum_told c = search rules
+enum_told-1 : tie.Need-enum_told-1
+enum_told-1 c = search rules
 
 returns-in-Refused : tie.Need-returns-in-Refused
 returns-in-Refused c =
-    let a = c.before.before.before.before.before.before.before.before.before.args in
-    let e = c.before.before.before.before.images_refusal-why.ensures ∙ (λ i. images_refusal (c.before.before.before.before.before.before.given_refusal.ensures i) (c.before.before.before.before.before.length_refusal.ensures i)) in
-    let w = sym e ∙ c.before.before.before.if-why-ne0.false in
-    open_settings a.settings.now a.state-1.now w (sym (c.before.before.opened.ensures (open_given a.settings.now a.state-1.now w)) ∙ c.enum_told-1.given.1)
+    let a = c.args in
+    let e = c.images_refusal-why.ensures ∙ (λ i. images_refusal (c.given_refusal.ensures i) (c.length_refusal.ensures i)) in
+    let w = sym e ∙ c.if-why-ne0.false in
+    open_settings a.settings.now a.state.now w (sym (c.opened.ensures (open_given a.settings.now a.state.now w)) ∙ c.in-Refused.is)
 
 enum_told-in-Accepted : tie.Need-enum_told-in-Accepted
 enum_told-in-Accepted c = search rules
@@ -48,11 +48,11 @@ shape_of-state-in-Accepted c = search rules
 
 returns-in-Accepted : tie.Need-returns-in-Accepted
 returns-in-Accepted c =
-    let a = c.before.before.before.before.before.before.before.before.before.before.before.before.before.args in
-    let e = c.before.before.before.before.before.before.before.before.images_refusal-why.ensures ∙ (λ i. images_refusal (c.before.before.before.before.before.before.before.before.before.before.given_refusal.ensures i) (c.before.before.before.before.before.before.before.before.before.length_refusal.ensures i)) in
-    let w = sym e ∙ c.before.before.before.before.before.before.before.if-why-ne0.false in
-    let r = open_good a.settings.now a.state-1.now _ w (sym (c.before.before.before.before.before.before.opened.ensures (open_given a.settings.now a.state-1.now w)) ∙ c.before.before.before.before.enum_told-in-Accepted-1.given.1) in
-    (r.0, c.before.before.clear.ensures ∙ r.1)
+    let a = c.args in
+    let e = c.images_refusal-why.ensures ∙ (λ i. images_refusal (c.given_refusal.ensures i) (c.length_refusal.ensures i)) in
+    let w = sym e ∙ c.if-why-ne0.false in
+    let r = open_good a.settings.now a.state.now _ w (sym (c.opened.ensures (open_given a.settings.now a.state.now w)) ∙ c.in-Accepted.is) in
+    (r.0, c.clear.ensures ∙ r.1)
 
 pub pressgully_open_spec : {M : Type 1} → statement M
 pressgully_open_spec =
@@ -64,7 +64,7 @@ pressgully_open_spec =
     overflow_cast-result
     returns-then-why-ne0
     opened-requires
-    enum_told
+    enum_told-1
     returns-in-Refused
     enum_told-in-Accepted
     clear-requires

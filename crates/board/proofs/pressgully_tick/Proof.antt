@@ -25,8 +25,8 @@ shape_of-state-then-why-ne0 c = search rules
 returns-then-why-ne0 : tie.Need-returns-then-why-ne0
 returns-then-why-ne0 c =
     let a = c.before.before.before.before.before.before.before.args in
-    let e = c.before.judged-why.ensures in
-    let r = tick_kept a.settings.now a.state-1.now a.count a.contact a.request a.points.now a.answer-1.now _ (by_bytes _ _ (λ k. c.if-why-ne0.true (e ∙ k))) (λ k. c.if-why-ne0.true (e ∙ k)) in
+    let e = c.judged-why.ensures in
+    let r = tick_kept a.settings.now a.state.now a.count a.contact a.request a.points.now a.answer.now _ (by_bytes _ _ (λ k. c.if-why-ne0.true (e ∙ k))) (λ k. c.if-why-ne0.true (e ∙ k)) in
     (e ∙ r.0, (r.1, r.2))
 
 is_possible-requires : tie.Need-is_possible-requires
@@ -39,16 +39,16 @@ returns-then-not-is_possible : tie.Need-returns-then-not-is_possible
 unfolding given_in
 returns-then-not-is_possible c =
     let a = c.before.before.before.before.before.before.before.before.before.before.args in
-    let w = sym c.before.before.before.before.judged-why.ensures ∙ c.before.before.before.if-why-ne0.false in
-    let p = sym (c.before.is_possible.ensures ∙ possible_here _ _ (first_given_lem a.settings.now a.state-1.now w) (first_image a.settings.now a.state-1.now w)) ∙ not-true _ c.if-not-is_possible.true in
-    let r = tick_kept a.settings.now a.state-1.now a.count a.contact a.request a.points.now a.answer-1.now 21 (by_ranges a.settings.now a.state-1.now w p) (λ k. absurd (omega arith)) in
+    let w = sym c.judged.ensures ∙ c.if1.false in
+    let p = sym (c.is_possible.ensures ∙ possible_here _ _ (first_given_lem a.settings.now a.state.now w) (first_image a.settings.now a.state.now w)) ∙ not-true _ c.if-not-is_possible.true in
+    let r = tick_kept a.settings.now a.state.now a.count a.contact a.request a.points.now a.answer.now 21 (by_ranges a.settings.now a.state.now w p) (λ k. absurd (omega arith)) in
     (r.0, (r.1, r.2))
 
 opened-requires : tie.Need-opened-requires
 opened-requires c κs = search rules
 
-enum_told : tie.Need-enum_told-1
-enum_told c = search rules
+enum_told-1 : tie.Need-enum_told-1
+enum_told-1 c = search rules
 
 shape_of-state-in-Refused : tie.Need-shape_of-state-in-Refused
 shape_of-state-in-Refused c = search rules
@@ -57,11 +57,11 @@ returns-in-Refused : tie.Need-returns-in-Refused
 unfolding given_in
 returns-in-Refused c =
     let a = c.before.before.before.before.before.before.before.before.before.before.before.before.before.args in
-    let w = sym c.before.before.before.before.before.before.before.judged-why.ensures ∙ c.before.before.before.before.before.before.if-why-ne0.false in
-    let g = first_given_lem a.settings.now a.state-1.now w in
-    let p = sym (c.before.before.before.before.is_possible.ensures ∙ possible_here _ _ g (first_image a.settings.now a.state-1.now w)) ∙ not-false _ c.before.before.before.if-not-is_possible.false in
-    let o = sym (c.before.before.opened.ensures g) ∙ c.enum_told-1.given.1 in
-    let r = tick_kept a.settings.now a.state-1.now a.count a.contact a.request a.points.now a.answer-1.now 10 (both_settings _ _ (unrefused a.settings.now a.state-1.now w p) o) (λ k. absurd (omega arith)) in
+    let w = sym c.judged.ensures ∙ c.if1.false in
+    let g = first_given_lem a.settings.now a.state.now w in
+    let p = sym (c.is_possible.ensures ∙ possible_here _ _ g (first_image a.settings.now a.state.now w)) ∙ not-false _ c.if-not-is_possible.false in
+    let o = sym (c.opened.ensures g) ∙ c.in-Refused.is in
+    let r = tick_kept a.settings.now a.state.now a.count a.contact a.request a.points.now a.answer.now 10 (both_settings _ _ (unrefused a.settings.now a.state.now w p) o) (λ k. absurd (omega arith)) in
     (r.0, (r.1, r.2))
 
 enum_known-s : tie.Need-enum_known-s
@@ -87,20 +87,20 @@ unfolding given_in tick_by
 returns-in-Accepted c =
     let s = c.before.before.before.before.before.before.before.before.before.before.before.before.before.before.before.before.before.before.before.before.before.before.before in
     let a = s.args in
-    let w = sym c.before.before.before.before.before.before.before.before.before.before.before.before.before.before.before.before.before.judged-why.ensures ∙ c.before.before.before.before.before.before.before.before.before.before.before.before.before.before.before.before.if-why-ne0.false in
-    let g = first_given_lem a.settings.now a.state-1.now w in
-    let p = sym (c.before.before.before.before.before.before.before.before.before.before.before.before.before.before.is_possible.ensures ∙ possible_here _ _ g (first_image a.settings.now a.state-1.now w)) ∙ not-false _ c.before.before.before.before.before.before.before.before.before.before.before.before.before.if-not-is_possible.false in
-    let u = unrefused a.settings.now a.state-1.now w p in
-    let o = sym (c.before.before.before.before.before.before.before.before.before.before.before.before.opened.ensures g) ∙ c.before.before.before.before.before.before.before.before.before.before.s-1.given.1 in
-    let h = state_held a.settings.now a.state-1.now (λ i. (c.before.before.before.before.before.before.before.before.before.before.before.before.before.before.before.before.before.before.before.before.before.slice_known-1.given i).fits) u in
-    let r = tick-done a.settings.now a.state-1.now a.count a.contact a.request a.points.now a.answer-1.now (both_good _ _ _ u o) in
-    let k = c.before.before.before.before.run_tick.ensures in
-    let same = same_tick (sym (made_of _ _ o)) refl (same_input a.contact (arg s.ranges.count).read c.before.before.before.before.before.before.before.request_by-asked.ensures) in
-    let told = same_told c.before.before.before.before.before.before.before.before.is_request-known.ensures same in (
-      k.0 _ h ∙ (λ i. if_room a.answer-1.now (told i) 14) ∙ r.0,
+    let w = sym c.judged.ensures ∙ c.if1.false in
+    let g = first_given_lem a.settings.now a.state.now w in
+    let p = sym (c.is_possible.ensures ∙ possible_here _ _ g (first_image a.settings.now a.state.now w)) ∙ not-false _ c.if-not-is_possible.false in
+    let u = unrefused a.settings.now a.state.now w p in
+    let o = sym (c.opened.ensures g) ∙ c.in-Accepted.is in
+    let h = state_held a.settings.now a.state.now (λ i. (c.slice-known.given i).fits) u in
+    let r = tick-done a.settings.now a.state.now a.count a.contact a.request a.points.now a.answer.now (both_good _ _ _ u o) in
+    let k = c.run_tick.ensures in
+    let same = same_tick (sym (made_of _ _ o)) refl (same_input a.contact (arg s.ranges.count).read c.request_by-asked.ensures) in
+    let told = same_told c.is_request-known.ensures same in (
+      k.0 _ h ∙ (λ i. if_room a.answer.now (told i) 14) ∙ r.0,
       (
-        k.1.0 _ h ∙ (λ i. if_room a.answer-1.now (image_of (same i).state-1) a.state-1.now) ∙ r.1,
-        k.1.1 _ h ∙ (λ i. if_room a.answer-1.now (answer_buffer (told i) 0 (same i).answer-1 a.answer-1.now) a.answer-1.now) ∙ r.2,
+        k.1.0 _ h ∙ (λ i. if_room a.answer.now (image_of (same i).state) a.state.now) ∙ r.1,
+        k.1.1 _ h ∙ (λ i. if_room a.answer.now (answer_buffer (told i) 0 (same i).answer a.answer.now) a.answer.now) ∙ r.2,
       ),
     )
 
@@ -116,7 +116,7 @@ pressgully_tick_spec =
     shape_of-state-then-not-is_possible
     returns-then-not-is_possible
     opened-requires
-    enum_told
+    enum_told-1
     shape_of-state-in-Refused
     returns-in-Refused
     enum_known-s

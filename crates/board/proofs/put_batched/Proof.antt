@@ -29,11 +29,11 @@ shape_of-state c = search rules
 
 returns : tie.Need-returns
 returns c k st h =
-    let setpoints = read_earlier (λ (t : State). t.setpoints) _ c.before.before.before.before.before.before.before.before.before.before.before.before.before.setpoints_at.ensures k in
-    let sequence = read_earlier (λ (t : State). t.sequence) _ c.before.before.before.before.before.before.before.before.sequence_at.ensures k in
-    let totals = read_earlier (λ (t : State). t.totals) _ c.before.before.before.totals_at.ensures k in
+    let setpoints = read_earlier (λ (t : State). t.setpoints) _ c.setpoints_at.ensures k in
+    let sequence = read_earlier (λ (t : State). t.sequence) _ c.sequence_at.ensures k in
+    let totals = read_earlier (λ (t : State). t.totals) _ c.totals_at.ensures k in
     held_as (λ i. with_totals (with_sequence (with_setpoints st (setpoints i)) (sequence i)) (totals i))
-    (c.before.before.put_totals.ensures.0 _ (c.before.before.before.before.before.before.before.put_sequence.ensures.0 _ (c.before.before.before.before.before.before.before.before.before.before.before.before.put_setpoints.ensures.0 st h)))
+    (c.put_totals.ensures.0 _ (c.put_sequence.ensures.0 _ (c.put_setpoints.ensures.0 st h)))
 
 pub put_batched_spec : {M : Type 1} → statement M
 put_batched_spec =

@@ -36,12 +36,12 @@ shape_of-state c = search rules
 
 returns : tie.Need-returns
 returns c k st h =
-    let book = read_earlier (λ (t : State). t.book) _ c.before.before.before.before.before.before.before.before.before.before.before.before.before.before.before.before.before.before.book_at.ensures k in
-    let stability = read_earlier (λ (t : State). t.stability) _ c.before.before.before.before.before.before.before.before.before.before.before.before.before.stability_at.ensures k in
-    let weighing = read_earlier (λ (t : State). t.weighing) _ c.before.before.before.before.before.before.before.before.weighing_at.ensures k in
-    let panel = read_earlier (λ (t : State). t.panel) _ c.before.before.before.panel_at.ensures k in
+    let book = read_earlier (λ (t : State). t.book) _ c.book_at.ensures k in
+    let stability = read_earlier (λ (t : State). t.stability) _ c.stability_at.ensures k in
+    let weighing = read_earlier (λ (t : State). t.weighing) _ c.weighing_at.ensures k in
+    let panel = read_earlier (λ (t : State). t.panel) _ c.panel_at.ensures k in
     held_as (λ i. with_panel (with_weighing (with_stability (with_book st (book i)) (stability i)) (weighing i)) (panel i))
-    (c.before.before.put_panel.ensures.0 _ (c.before.before.before.before.before.before.before.put_weighing.ensures.0 _ (c.before.before.before.before.before.before.before.before.before.before.before.before.put_stability.ensures.0 _ (c.before.before.before.before.before.before.before.before.before.before.before.before.before.before.before.before.before.put_book.ensures.0 st h))))
+    (c.put_panel.ensures.0 _ (c.put_weighing.ensures.0 _ (c.put_stability.ensures.0 _ (c.put_book.ensures.0 st h))))
 
 pub put_weighed_spec : {M : Type 1} → statement M
 put_weighed_spec =

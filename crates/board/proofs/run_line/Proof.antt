@@ -23,47 +23,47 @@ use Rattle.board.proofs.run_line.Tie as tie
 abbrev start : tie.After-slice_known-in-Bytes-6-1 → tie.Start
 start c = c.before.before.before.before.before.before.before.before.before.before.before.before.before.before.before.before.before.before.before.before.before.before.before.before.before.before.before.before.before.before.before.before.before.before.before.before.before.before.before.before.before.before.before.before.before.before.before.before.before.before.before.before
 
-fits : (c : tie.After-slice_known-in-Bytes-6-1) (st : State) → Holds (start c).args.state-1.now st
-    → Lined (start c).args.s st (start c).args.count (start c).args.contact (start c).args.receive.now (start c).args.reply.now c.before.before.before.before.before.told_number_lem.result (start c).args.answer-1.now c.before.before.before.before.before.before.before.before.before.step.new.1.1.1.0 c.before.before.before.before.before.before.before.before.before.before.before.before.before.before.before.before.before.before.before.before.before.before.before.before.before.before.before.before.before.before.before.before.before.before.before.before.reply.new.1.1.1.1.1.0 c.before.before.answer.new.1.1.1.1.1.1.0
+fits : (c : tie.After-slice_known-in-Bytes-6-1) (st : State) → Holds (start c).args.state.now st
+    → Lined (start c).args.s st (start c).args.count (start c).args.contact (start c).args.receive.now (start c).args.reply.now c.told_number_lem.result (start c).args.answer.now c.step.new.1.1.1.0 c.reply.new.1.1.1.1.1.0 c.answer.new.1.1.1.1.1.1.0
 fits c st h =
     let a = (start c).args in
-    let e = simp (to_z-of_z (start c).ranges.count) at c.before.before.before.before.before.before.before.before.before.before.before.before.before.before.before.before.before.before.before.before.before.before.before.before.before.before.before.before.before.before.before.before.before.before.before.before.before.before.before.before.before.before.before.enter-x.ensures in
+    let e = simp (to_z-of_z (start c).ranges.count) at c.enter.ensures in
     let h1 = e.0 st h in
-    let h2 = held_as (batch_granted _ _ _) (c.before.before.before.before.before.before.before.before.before.before.before.before.before.before.before.before.before.before.before.before.before.settle_batch.ensures _ (c.before.before.before.before.before.before.before.before.before.before.before.before.before.before.before.before.before.before.before.before.before.before.before.before.before.before.before.settle.ensures.0 _ h1)) in
-    let h3 = keyed_as _ _ _ c.before.before.before.before.before.before.before.before.before.before.before.before.before.before.before.before.is_keyed.ensures (c.before.before.before.before.before.before.before.before.before.before.before.before.before.before.track.ensures _ h2) in
-    let h4 = held_on _ _ _ c.before.before.before.before.before.before.before.before.before.before.before.is_held_lem.ensures (c.before.before.before.before.before.before.before.before.before.step.ensures _ h3) in
-    let i : Input = input_of a.count a.contact c.before.before.before.before.before.before.before.before.before.before.before.before.before.before.before.before.before.before.before.before.before.before.before.before.before.before.before.before.before.before.before.before.before.before.before.before.before.before.before.before.before.before.before.before.before.request_of-request.result in
-    let r = leaves a.s st i c.before.before.before.before.before.before.before.before.before.before.before.before.before.before.before.before.before.before.before.before.before.before.before.before.before.before.before.before.before.before.before.before.before.before.before.before.before.before.before.before.before.before.before.enter-x.result c.before.before.before.before.before.before.before.before.before.before.before.before.before.before.before.before.before.before.before.before.before.before.before.before.before.before.before.before.before.before.before.before.before.before.before.before.before.before.before.ruled-outcome.result c.before.before.before.before.before.before.before.before.before.before.before.before.before.before.before.before.before.before.before.before.before.before.before.before.before.before.before.before.before.before.granted-done.result c.before.before.before.before.before.before.before.before.before.before.before.before.before.before.before.before.before.again-x.result c.before.before.before.before.before.told_number_lem.result c.before.before.before.before.before.before.before.before.before.before.before.before.before.before.before.before.before.before.before.before.before.before.before.before.before.before.before.before.before.before.before.before.length-1.given.0.0
-    a.answer-1.now c.before.before.before.before.before.before.before.before.before.step.new.1.1.1.0 c.before.before.before.before.before.before.before.before.before.before.before.before.before.before.before.before.before.before.before.before.before.before.before.before.before.before.before.settle.new.1.1.1.0 c.before.before.answer.new.1.1.1.1.1.1.0
-    (e.1 st h) (c.before.before.before.before.before.before.before.before.before.before.before.before.before.before.before.before.before.before.before.before.before.before.before.before.before.before.before.before.before.before.before.before.before.before.before.before.before.before.before.ruled-outcome.ensures _ h1) c.before.before.before.before.before.before.before.before.before.before.before.before.before.before.before.before.before.before.before.before.before.before.before.before.before.before.before.before.before.before.granted-done.ensures (c.before.before.before.before.before.before.before.before.before.before.before.before.before.before.before.before.before.again-x.ensures _ h2) h4 (c.before.before.before.before.before.before.before.before.before.before.before.before.before.before.before.before.before.before.before.before.before.before.before.before.before.before.before.settle.ensures.1 _ h1 ∙ ap (λ (d : Closed). closed_put d a.answer-1.now) (batch_closed _ _ _)) (c.before.before.answer.ensures _ h4) in
-    lined a.s st a.count a.contact a.receive.now a.reply.now c.before.before.before.before.before.before.before.before.before.before.before.before.before.before.before.before.before.before.before.before.before.before.before.before.before.before.before.before.before.before.before.before.before.before.before.before.before.before.before.before.before.before.before.before.before.before.command_of-command.result c.before.before.before.before.before.before.before.before.before.before.before.before.before.before.before.before.before.before.before.before.before.before.before.before.before.before.before.before.before.before.before.before.before.before.before.before.before.before.before.before.before.before.before.before.before.request_of-request.result c.before.before.before.before.before.before.before.before.before.before.before.before.before.before.before.before.before.before.before.before.before.before.before.before.before.before.before.before.before.before.before.before.before.before.before.before.before.before.before.before.before.before.before.enter-x.result c.before.before.before.before.before.before.before.before.before.before.before.before.before.before.before.before.before.before.before.before.before.before.before.before.before.before.before.before.before.before.before.before.before.before.before.before.before.before.before.ruled-outcome.result c.before.before.before.before.before.before.before.before.before.before.before.before.before.before.before.before.before.before.before.before.before.before.before.before.before.before.before.before.before.before.before.before.before.before.before.before.reply.result c.before.before.before.before.before.before.before.before.before.before.before.before.before.before.before.before.before.before.before.before.before.before.before.before.before.before.before.before.before.before.before.before.before.before.before.before.reply.new.1.1.1.1.1.0
-    c.before.before.before.before.before.before.before.before.before.before.before.before.before.before.before.before.before.before.before.before.before.before.before.before.before.before.before.before.before.before.before.before.before.before.before.before.before.before.before.before.before.before.before.before.before.before.command_of-command.ensures c.before.before.before.before.before.before.before.before.before.before.before.before.before.before.before.before.before.before.before.before.before.before.before.before.before.before.before.before.before.before.before.before.before.before.before.before.before.before.before.before.before.before.before.before.before.request_of-request.ensures (e.1 st h) (c.before.before.before.before.before.before.before.before.before.before.before.before.before.before.before.before.before.before.before.before.before.before.before.before.before.before.before.before.before.before.before.before.before.before.before.before.before.before.before.ruled-outcome.ensures _ h1) (c.before.before.before.before.before.before.before.before.before.before.before.before.before.before.before.before.before.before.before.before.before.before.before.before.before.before.before.before.before.before.before.before.before.before.before.before.reply.ensures.0 _ h1) (c.before.before.before.before.before.before.before.before.before.before.before.before.before.before.before.before.before.before.before.before.before.before.before.before.before.before.before.before.before.before.before.before.before.before.before.before.reply.ensures.1 _ h1)
-    c.before.before.before.before.before.told_number_lem.result a.answer-1.now c.before.before.before.before.before.before.before.before.before.step.new.1.1.1.0 c.before.before.answer.new.1.1.1.1.1.1.0
-    c.before.before.before.before.before.before.before.before.before.before.before.before.before.before.before.before.before.before.before.before.before.before.before.before.before.before.before.before.before.before.before.before.length-1.given.0.0 c.before.before.before.before.before.before.before.before.before.before.before.before.before.before.before.before.before.before.before.before.before.before.before.before.before.before.before.before.before.before.before.before.length-1.given.1 (c.before.before.before.before.before.told_number_lem.ensures ∙ ap told_number c.before.before.before.before.before.before.told_of.ensures) r
+    let h2 = held_as (batch_granted _ _ _) (c.settle-batch.ensures _ (c.settle.ensures.0 _ h1)) in
+    let h3 = keyed_as _ _ _ c.is-keyed.ensures (c.track.ensures _ h2) in
+    let h4 = held_on _ _ _ c.is_held_lem.ensures (c.step.ensures _ h3) in
+    let i : Input = input_of a.count a.contact c.request-of.result in
+    let r = leaves a.s st i c.enter.result c.ruled.result c.granted.result c.again.result c.told_number_lem.result c.length.given.0.0
+    a.answer.now c.step.new.1.1.1.0 c.settle.new.1.1.1.0 c.answer.new.1.1.1.1.1.1.0
+    (e.1 st h) (c.ruled.ensures _ h1) c.granted.ensures (c.again.ensures _ h2) h4 (c.settle.ensures.1 _ h1 ∙ ap (λ (d : Closed). closed_put d a.answer.now) (batch_closed _ _ _)) (c.answer.ensures _ h4) in
+    lined a.s st a.count a.contact a.receive.now a.reply.now c.command-of.result c.request-of.result c.enter.result c.ruled.result c.reply.result c.reply.new.1.1.1.1.1.0
+    c.command-of.ensures c.request-of.ensures (e.1 st h) (c.ruled.ensures _ h1) (c.reply.ensures.0 _ h1) (c.reply.ensures.1 _ h1)
+    c.told_number_lem.result a.answer.now c.step.new.1.1.1.0 c.answer.new.1.1.1.1.1.1.0
+    c.length.given.0.0 c.length.given.1 (c.told_number_lem.ensures ∙ ap told_number c.told_of.ensures) r
 
 -- ---- it does not
 abbrev start2 : tie.After-slice_known-in-Short-4-1 → tie.Start
 start2 c = c.before.before.before.before.before.before.before.before.before.before.before.before.before.before.before.before.before.before.before.before.before.before.before.before.before.before.before.before.before.before.before.before.before.before.before.before.before
 
-falls_short : (c : tie.After-slice_known-in-Short-4-1) (st : State) → Holds (start2 c).args.state-1.now st
-    → Lined (start2 c).args.s st (start2 c).args.count (start2 c).args.contact (start2 c).args.receive.now (start2 c).args.reply.now 14 (start2 c).args.answer-1.now c.before.before.before.before.before.before.before.step-in-Short.new.1.1.1.0 c.before.before.before.before.before.before.before.before.before.before.before.before.before.before.before.before.before.before.before.before.before.reply.new.1.1.1.1.1.0 c.before.before.answer-in-Short.new.1.1.1.1.1.1.0
+falls_short : (c : tie.After-slice_known-in-Short-4-1) (st : State) → Holds (start2 c).args.state.now st
+    → Lined (start2 c).args.s st (start2 c).args.count (start2 c).args.contact (start2 c).args.receive.now (start2 c).args.reply.now 14 (start2 c).args.answer.now c.step2.new.1.1.1.0 c.reply.new.1.1.1.1.1.0 c.answer-in-Short.new.1.1.1.1.1.1.0
 falls_short c st h =
     let a = (start2 c).args in
-    let e = simp (to_z-of_z (start2 c).ranges.count) at c.before.before.before.before.before.before.before.before.before.before.before.before.before.before.before.before.before.before.before.before.before.before.before.before.before.before.before.before.enter-x.ensures in
+    let e = simp (to_z-of_z (start2 c).ranges.count) at c.enter.ensures in
     let h1 = e.0 st h in
-    let h2 = c.before.before.before.before.before.before.before.before.before.before.before.track-in-Short.ensures _ h1 in
-    let h3 = c.before.before.before.before.before.before.before.step-in-Short.ensures _ h2 in
-    let r = unasked-leaves a.s st a.count a.contact c.before.before.before.before.before.before.before.before.before.before.before.before.before.before.before.before.before.before.before.before.before.before.before.before.before.before.before.before.enter-x.result (e.1 st h) 14 0
-    a.answer-1.now c.before.before.before.before.before.before.before.step-in-Short.new.1.1.1.0 c.before.before.before.before.before.before.before.before.before.before.before.before.before.before.before.put_none.new.0 c.before.before.answer-in-Short.new.1.1.1.1.1.1.0
-    h3 c.before.before.before.before.before.before.before.before.before.before.before.before.before.before.before.put_none.ensures (c.before.before.answer-in-Short.ensures _ h3) in
-    lined-short a.s st a.count a.contact a.receive.now a.reply.now c.before.before.before.before.before.before.before.before.before.before.before.before.before.before.before.before.before.before.before.before.before.before.before.before.before.before.before.before.before.before.before.command_of-command.result c.before.before.before.before.before.before.before.before.before.before.before.before.before.before.before.before.before.before.before.before.before.before.before.before.before.before.before.before.before.before.request_of-request.result c.before.before.before.before.before.before.before.before.before.before.before.before.before.before.before.before.before.before.before.before.before.before.before.before.before.before.before.before.enter-x.result c.before.before.before.before.before.before.before.before.before.before.before.before.before.before.before.before.before.before.before.before.before.before.before.before.ruled-outcome.result c.before.before.before.before.before.before.before.before.before.before.before.before.before.before.before.before.before.before.before.before.before.reply.result c.before.before.before.before.before.before.before.before.before.before.before.before.before.before.before.before.before.before.before.before.before.reply.new.1.1.1.1.1.0
-    c.before.before.before.before.before.before.before.before.before.before.before.before.before.before.before.before.before.before.before.before.before.before.before.before.before.before.before.before.before.before.before.command_of-command.ensures c.before.before.before.before.before.before.before.before.before.before.before.before.before.before.before.before.before.before.before.before.before.before.before.before.before.before.before.before.before.before.request_of-request.ensures (e.1 st h) (c.before.before.before.before.before.before.before.before.before.before.before.before.before.before.before.before.before.before.before.before.before.before.before.before.ruled-outcome.ensures _ h1) (c.before.before.before.before.before.before.before.before.before.before.before.before.before.before.before.before.before.before.before.before.before.reply.ensures.0 _ h1) (c.before.before.before.before.before.before.before.before.before.before.before.before.before.before.before.before.before.before.before.before.before.reply.ensures.1 _ h1)
-    14 a.answer-1.now c.before.before.before.before.before.before.before.step-in-Short.new.1.1.1.0 c.before.before.answer-in-Short.new.1.1.1.1.1.1.0
-    c.before.before.before.before.before.before.before.before.before.before.before.before.before.before.before.before.before.enum_told-1.given.1 refl r
+    let h2 = c.track2.ensures _ h1 in
+    let h3 = c.step2.ensures _ h2 in
+    let r = unasked-leaves a.s st a.count a.contact c.enter.result (e.1 st h) 14 0
+    a.answer.now c.step2.new.1.1.1.0 c.put-none.new.0 c.answer-in-Short.new.1.1.1.1.1.1.0
+    h3 c.put-none.ensures (c.answer-in-Short.ensures _ h3) in
+    lined-short a.s st a.count a.contact a.receive.now a.reply.now c.command-of.result c.request-of.result c.enter.result c.ruled.result c.reply.result c.reply.new.1.1.1.1.1.0
+    c.command-of.ensures c.request-of.ensures (e.1 st h) (c.ruled.ensures _ h1) (c.reply.ensures.0 _ h1) (c.reply.ensures.1 _ h1)
+    14 a.answer.now c.step2.new.1.1.1.0 c.answer-in-Short.new.1.1.1.1.1.1.0
+    c.enum_told.given.1 refl r
 
 returns-then-answer-lt-ANSWER_LENGTH : tie.Need-returns-then-answer-lt-ANSWER_LENGTH
 returns-then-answer-lt-ANSWER_LENGTH c =
-    let no = lt-leb answer_length (length c.before.before.before.before.before.args.answer-1.now) c.if-answer-lt-ANSWER_LENGTH.true in
+    let no = lt-leb answer_length (length c.args.answer.now) c.if-answer-lt-ANSWER_LENGTH.true in
     ((λ st h. simp no), ((λ st h. simp no), ((λ st h. simp no), (λ st h. simp no))))
 
 command_of-command-requires : tie.Need-command_of-command-requires
@@ -121,10 +121,10 @@ overflow_cast-result : tie.Need-overflow_cast-result
 overflow_cast-result c = search rules
 
 shape_of-reply-in-Bytes : tie.Need-shape_of-reply-in-Bytes
-shape_of-reply-in-Bytes c = search (rules, c.before.before.before.before.before.before.before.before.before.before.before.before.before.before.before.before.before.before.before.before.before.before.before.before.before.before.before.before.before.before.before.before.before.before.before.before.reply, c.before.before.before.before.before.before.before.before.before.step, c.before.before.before.before.before.before.before.before.before.before.before.before.before.before.track, c.before.before.before.before.before.before.before.before.before.before.before.before.before.before.before.before.before.before.before.before.before.settle_batch, c.before.before.before.before.before.before.before.before.before.before.before.before.before.before.before.before.before.before.before.before.before.before.before.before.before.before.before.settle, c.before.before.before.before.before.before.before.before.before.before.before.before.before.before.before.before.before.before.before.before.before.before.before.before.before.before.before.before.before.before.before.before.before.before.before.before.before.before.before.before.before.before.before.enter-x)
+shape_of-reply-in-Bytes c = search (rules, c.reply, c.step, c.track, c.settle-batch, c.settle, c.enter)
 
 shape_of-state-in-Bytes : tie.Need-shape_of-state-in-Bytes
-shape_of-state-in-Bytes c = search (rules, c.before.before.before.before.before.before.before.before.before.step, c.before.before.before.before.before.before.before.before.before.before.before.before.before.before.track, c.before.before.before.before.before.before.before.before.before.before.before.before.before.before.before.before.before.before.before.before.before.settle_batch, c.before.before.before.before.before.before.before.before.before.before.before.before.before.before.before.before.before.before.before.before.before.before.before.before.before.before.before.settle, c.before.before.before.before.before.before.before.before.before.before.before.before.before.before.before.before.before.before.before.before.before.before.before.before.before.before.before.before.before.before.before.before.before.before.before.before.before.before.before.before.before.before.before.enter-x)
+shape_of-state-in-Bytes c = search (rules, c.step, c.track, c.settle-batch, c.settle, c.enter)
 
 shape_of-answer-in-Bytes : tie.Need-shape_of-answer-in-Bytes
 shape_of-answer-in-Bytes c = search rules
@@ -132,19 +132,19 @@ shape_of-answer-in-Bytes c = search rules
 returns-in-Bytes : tie.Need-returns-in-Bytes
 returns-in-Bytes c =
     let a = (start c).args in
-    let room = c.before.before.before.before.before.before.before.before.before.before.before.before.before.before.before.before.before.before.before.before.before.before.before.before.before.before.before.before.before.before.before.before.before.before.before.before.before.before.before.before.before.before.before.before.before.before.before.if-answer-lt-ANSWER_LENGTH.false in (
-      (λ st h. (fits c st h).told ∙ is_room a.answer-1.now _ 14 room),
+    let room = c.if1.false in (
+      (λ st h. (fits c st h).told ∙ is_room a.answer.now _ 14 room),
       (
-        (λ st h. (fits c st h).next ∙ is_room a.answer-1.now _ a.state-1.now room),
+        (λ st h. (fits c st h).next ∙ is_room a.answer.now _ a.state.now room),
         (
-          (λ st h. (fits c st h).replied ∙ is_room a.answer-1.now _ a.reply.now room),
-          (λ st h. (fits c st h).shown ∙ is_room a.answer-1.now _ a.answer-1.now room),
+          (λ st h. (fits c st h).replied ∙ is_room a.answer.now _ a.reply.now room),
+          (λ st h. (fits c st h).shown ∙ is_room a.answer.now _ a.answer.now room),
         ),
       ),
     )
 
-enum_told : tie.Need-enum_told-1
-enum_told c = search rules
+enum_told-1 : tie.Need-enum_told-1
+enum_told-1 c = search rules
 
 put_none-requires : tie.Need-put_none-requires
 put_none-requires c κs = search rules
@@ -170,13 +170,13 @@ shape_of-answer-in-Short c = search rules
 returns-in-Short : tie.Need-returns-in-Short
 returns-in-Short c =
     let a = (start2 c).args in
-    let room = c.before.before.before.before.before.before.before.before.before.before.before.before.before.before.before.before.before.before.before.before.before.before.before.before.before.before.before.before.before.before.before.before.if-answer-lt-ANSWER_LENGTH.false in (
-      (λ st h. (falls_short c st h).told ∙ is_room a.answer-1.now _ 14 room),
+    let room = c.if1.false in (
+      (λ st h. (falls_short c st h).told ∙ is_room a.answer.now _ 14 room),
       (
-        (λ st h. (falls_short c st h).next ∙ is_room a.answer-1.now _ a.state-1.now room),
+        (λ st h. (falls_short c st h).next ∙ is_room a.answer.now _ a.state.now room),
         (
-          (λ st h. (falls_short c st h).replied ∙ is_room a.answer-1.now _ a.reply.now room),
-          (λ st h. (falls_short c st h).shown ∙ is_room a.answer-1.now _ a.answer-1.now room),
+          (λ st h. (falls_short c st h).replied ∙ is_room a.answer.now _ a.reply.now room),
+          (λ st h. (falls_short c st h).shown ∙ is_room a.answer.now _ a.answer.now room),
         ),
       ),
     )
@@ -208,7 +208,7 @@ run_line_spec =
     shape_of-state-in-Bytes
     shape_of-answer-in-Bytes
     returns-in-Bytes
-    enum_told
+    enum_told-1
     put_none-requires
     track-requires-in-Short
     step-requires-in-Short

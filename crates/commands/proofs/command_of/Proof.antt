@@ -14,8 +14,8 @@ spoken-command-requires c κs = search rules
 kind_of-requires : tie.Need-kind_of-requires
 kind_of-requires c κs = search rules
 
-enum_told : tie.Need-enum_told-1
-enum_told c = search rules
+enum_told-1 : tie.Need-enum_told-1
+enum_told-1 c = search rules
 
 enum_told-in-Long : tie.Need-enum_told-in-Long
 enum_told-in-Long c = search rules
@@ -28,19 +28,19 @@ enum_told-in-Text c = search rules
 
 returns-in-NoLine : tie.Need-returns-in-NoLine
 unfolding command_of
-returns-in-NoLine c = simp (sym c.before.before.kind_of.ensures.0 ∙ c.enum_told-1.given.1)
+returns-in-NoLine c = simp (sym c.kind_of.ensures.0 ∙ c.in-NoLine.is)
 
 returns-in-Long : tie.Need-returns-in-Long
 unfolding command_of
-returns-in-Long c = simp (sym c.before.before.kind_of.ensures.0 ∙ c.enum_told-in-Long-1.given.1)
+returns-in-Long c = simp (sym c.kind_of.ensures.0 ∙ c.in-Long.is)
 
 returns-in-Empty : tie.Need-returns-in-Empty
 unfolding command_of
-returns-in-Empty c = simp (sym c.before.before.kind_of.ensures.0 ∙ c.enum_told-in-Empty-1.given.1, c.before.before.before.spoken-command.ensures, c.before.before.before.before.Line-of.ensures.0)
+returns-in-Empty c = simp (sym c.kind_of.ensures.0 ∙ c.in-Empty.is, c.spoken-command.ensures, c.Line-of.ensures.0)
 
 returns-in-Text : tie.Need-returns-in-Text
 unfolding command_of
-returns-in-Text c = simp (sym c.before.before.kind_of.ensures.0 ∙ c.enum_told-in-Text-1.given.1, c.before.before.before.spoken-command.ensures, c.before.before.before.before.Line-of.ensures.0)
+returns-in-Text c = simp (sym c.kind_of.ensures.0 ∙ c.in-Text.is, c.spoken-command.ensures, c.Line-of.ensures.0)
 
 pub command_of_spec : {M : Type 1} → statement M
 command_of_spec =
@@ -49,7 +49,7 @@ command_of_spec =
     line_of-requires
     spoken-command-requires
     kind_of-requires
-    enum_told
+    enum_told-1
     enum_told-in-Long
     enum_told-in-Empty
     enum_told-in-Text

@@ -22,15 +22,15 @@ overflow_add-result c = search rules
 
 returns-then-byte_at-address : tie.Need-returns-then-byte_at-address
 unfolding is_prefixed
-returns-then-byte_at-address c = simp (c.byte_at-then-byte_at-address.ensures, eq-eqb _ _ c.before.if-byte_at-address.true, ← c.before.before.byte_at-then-byte_at-eq64.ensures, eq-eqb _ _ c.before.before.before.if-byte_at-eq64.true, ← c.before.before.before.before.byte_at.ensures, lt-ltb _ _ c.before.before.before.before.before.if-address-gt0.true)
+returns-then-byte_at-address c = simp (c.byte_at-then-byte_at-address.ensures, eq-eqb _ _ c.if-byte_at-address.true, ← c.byte_at-then-byte_at-eq64.ensures, eq-eqb _ _ c.if-byte_at-eq64.true, ← c.byte_at.ensures, lt-ltb _ _ c.if-address-gt0.true)
 
 returns-else-byte_at-address : tie.Need-returns-else-byte_at-address
 unfolding is_prefixed
-returns-else-byte_at-address c = simp (ne_eqb _ _ c.if-byte_at-address.false, ← c.before.byte_at-then-byte_at-eq64.ensures, eq-eqb _ _ c.before.before.if-byte_at-eq64.true, ← c.before.before.before.byte_at.ensures, lt-ltb _ _ c.before.before.before.before.if-address-gt0.true)
+returns-else-byte_at-address c = simp (ne_eqb _ _ c.if-byte_at-address.false, ← c.byte_at-then-byte_at-eq64.ensures, eq-eqb _ _ c.if-byte_at-eq64.true, ← c.byte_at.ensures, lt-ltb _ _ c.if-address-gt0.true)
 
 returns-else-byte_at-eq64 : tie.Need-returns-else-byte_at-eq64
 unfolding is_prefixed
-returns-else-byte_at-eq64 c = simp (ne_eqb _ _ c.if-byte_at-eq64.false, ← c.before.byte_at.ensures, lt-ltb _ _ c.before.before.if-address-gt0.true)
+returns-else-byte_at-eq64 c = simp (ne_eqb _ _ c.if-byte_at-eq64.false, ← c.byte_at.ensures, lt-ltb _ _ c.if-address-gt0.true)
 
 returns-else-address-gt0 : tie.Need-returns-else-address-gt0
 unfolding is_prefixed

@@ -15,11 +15,11 @@ body-requires c κs = search rules
 
 returns-then-is_prefixed : tie.Need-returns-then-is_prefixed
 unfolding spoken_of
-returns-then-is_prefixed c = simp (c.body.ensures, c.before.prefix_length.ensures, c.before.before.if-is_prefixed.true, ← c.before.before.before.is_prefixed.ensures)
+returns-then-is_prefixed c = simp (c.body.ensures, c.prefix_length.ensures, c.if-is_prefixed.true, ← c.is_prefixed.ensures)
 
 returns-else-is_prefixed : tie.Need-returns-else-is_prefixed
 unfolding spoken_of
-returns-else-is_prefixed c = simp (c.if-is_prefixed.false, ← c.before.is_prefixed.ensures)
+returns-else-is_prefixed c = simp (c.if-is_prefixed.false, ← c.is_prefixed.ensures)
 
 pub spoken_spec : {M : Type 1} → statement M
 spoken_spec =

@@ -172,11 +172,11 @@ left : (m : tie.Joined-done) →
     let w = g.before.before.before in
     let k = w.before in
     let q = k.before in
-    let a = q.before.before.before.before.args in
+    let a = q.args in
     left_of outcome.Done m.match-done.st m.match-done.held m.match-done.keyed m.match-done.closed
     ≡ granted_of (parts_of a.st k.book_tick-st.result q.steadied-st.result a.st.weighing) w.weigh-x.result g.granted-done.result
 left m =
-    let x = m.before.before.before.before.weigh-x.result in
+    let x = m.weigh-x.result in
     ⊎_elim
     (λ f. left_by f.2 f.3 f.4 f.5 (left_nothing _ _ _ f.1.given.1))
     (⊎_elim
@@ -222,7 +222,7 @@ parts : (t : tie.After-tracked-st) →
     let k = w.before in
     let q = k.before in
     let r = q.before.before in
-    let a = r.before.before.args in
+    let a = r.args in
     Asked a.s a.st a.i r.raw_of-raw.result q.steadied-st.result k.book_tick-st.result w.weigh-x.result u.ruling-outcome.result g.granted-done.result
     m.match-done.st m.match-done.held m.match-done.keyed m.match-done.closed v.weigh-served.result i.is_idle-idle.result t.tracked-st.result
 parts t =
@@ -255,7 +255,7 @@ stepped : (j : tie.Joined-not-held) →
     j.if-not-held.st ≡ next_of a.s a.st a.i
 stepped j =
     let p = parts j.before in
-    let x = j.before.before.before.before.weigh-served.result in
+    let x = j.weigh-served.result in
     ⊎_elim
     (λ f.
     let v = (be (got {w = w64} f.2.result f.2.ok) f.2.ensures).read in

@@ -8,8 +8,8 @@ use Rattle.outline.specs.DayBook.{book_of}
 use Rattle.daybook.proofs.book_tick.Statement.{statement}
 use Rattle.daybook.proofs.book_tick.Tie as tie
 
-enum_told : tie.Need-enum_told-1
-enum_told c = search rules
+enum_told-1 : tie.Need-enum_told-1
+enum_told-1 c = search rules
 
 counted-ticks-requires : tie.Need-counted-ticks-requires
 counted-ticks-requires c κs = search rules
@@ -22,15 +22,15 @@ good_tick-requires c κs = search rules
 
 returns-in-Bad : tie.Need-returns-in-Bad
 unfolding book_of
-returns-in-Bad c = simp (c.counted-ticks.ensures, c.before.enum_told-1.given.1)
+returns-in-Bad c = simp (c.counted-ticks.ensures, c.in-Bad.is)
 
 returns-in-Tenths : tie.Need-returns-in-Tenths
 returns-in-Tenths c =
-    let g = c.before.before in
-    let f : SFits w32 g.raw-1.given.0.0 = search sfits_of in
-    simp (c.good_tick.ensures, to_z-of_z f, g.raw-1.given.1)
+    let g = c.before in
+    let f : SFits w32 g.in-Tenths.t = search sfits_of in
+    simp (c.good_tick.ensures, to_z-of_z f, g.in-Tenths.is)
 
 pub book_tick_spec : {M : Type 1} → statement M
 book_tick_spec =
     tie.close
-    (tie.spec enum_told counted-ticks-requires enum_known-raw good_tick-requires returns-in-Bad returns-in-Tenths)
+    (tie.spec enum_told-1 counted-ticks-requires enum_known-raw good_tick-requires returns-in-Bad returns-in-Tenths)

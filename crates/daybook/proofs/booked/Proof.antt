@@ -28,13 +28,13 @@ change_small s = diff_abs s.ranges.to s.ranges.from
 abbrev plain : ℕ
 plain = 1073741824
 
-sum_small : (c : tie.Then-sum-lt-BOOK_PLAIN) → nat_abs c.before.before.args.sum ≤ plain
+sum_small : (c : tie.Then-sum-lt-BOOK_PLAIN) → nat_abs c.args.sum ≤ plain
 sum_small c =
     let s = c.before.before in
     let e = to_z-of_z s.ranges.sum in
-    inside s.args.sum plain (ap (le_z (neg_ℤ (pos plain))) (sym e) ∙ c.before.else-sum.true) (ap (λ (x : ℤ). lt_z x (pos plain)) (sym e) ∙ c.if-sum-lt-BOOK_PLAIN.true)
+    inside s.args.sum plain (ap (le_z (neg_ℤ (pos plain))) (sym e) ∙ c.if-sum.true) (ap (λ (x : ℤ). lt_z x (pos plain)) (sym e) ∙ c.if-sum-lt-BOOK_PLAIN.true)
 
-plain_fits : (c : tie.Then-sum-lt-BOOK_PLAIN) → SFits w64 (c.before.before.args.sum +ℤ change_of c.before.before)
+plain_fits : (c : tie.Then-sum-lt-BOOK_PLAIN) → SFits w64 (c.args.sum +ℤ change_of c.before.before)
 plain_fits c =
     let s = c.before.before in
     add_fits w64 plain 4294967296 s.args.sum (change_of s) (sum_small c) (change_small s) tt
@@ -49,19 +49,19 @@ booked_plain x y h k =
 change : (c : tie.After-difference) → Read w64 (of_z w64 c.difference.result) (change_of c.before.before.before)
 change c =
     let s = c.before.before.before in
-    be (got c.difference.result c.difference.type-inv) (simp (c.difference.ensures, to_z-of_z s.ranges.to, to_z-of_z s.ranges.from))
+    be (got c.difference.result c.difference.type_inv) (simp (c.difference.ensures, to_z-of_z s.ranges.to, to_z-of_z s.ranges.from))
 
 -- ---- any sum
 total_fits : (s : tie.Start) → SFits w64 (limit_to book_limit s.args.sum +ℤ change_of s)
 total_fits s = add_fits w64 book_limit 4294967296 (limit_to book_limit s.args.sum) (change_of s) (limit_abs book_limit s.args.sum) (change_small s) tt
 
-stopped : (c : tie.After-limited) → Read w64 (of_z w64 c.limited.result) (limit_to book_limit c.before.before.args.sum)
-stopped c = be (got c.limited.result c.limited.type-inv) (c.limited.ensures ∙ ap (limit_to book_limit) (to_z-of_z c.before.before.ranges.sum))
+stopped : (c : tie.After-limited) → Read w64 (of_z w64 c.limited.result) (limit_to book_limit c.args.sum)
+stopped c = be (got c.limited.result c.limited.type_inv) (c.limited.ensures ∙ ap (limit_to book_limit) (to_z-of_z c.ranges.sum))
 
 change_2 : (c : tie.After-difference-2) → Read w64 (of_z w64 c.difference-2.result) (change_of c.before.before.before)
 change_2 c =
     let s = c.before.before.before in
-    be (got c.difference-2.result c.difference-2.type-inv) (simp (c.difference-2.ensures, to_z-of_z s.ranges.to, to_z-of_z s.ranges.from))
+    be (got c.difference-2.result c.difference-2.type_inv) (simp (c.difference-2.ensures, to_z-of_z s.ranges.to, to_z-of_z s.ranges.from))
 
 overflow_sub-t-5 : tie.Need-overflow_sub-t-5
 overflow_sub-t-5 c = search rules
@@ -70,7 +70,7 @@ difference-requires : tie.Need-difference-requires
 difference-requires c κs = search rules
 
 overflow_add-result : tie.Need-overflow_add-result
-overflow_add-result c = add_need (arg c.before.before.before.ranges.sum) (change c) (plain_fits c.before)
+overflow_add-result c = add_need (arg c.ranges.sum) (change c) (plain_fits c.before)
 
 returns-then-sum-lt-BOOK_PLAIN : tie.Need-returns-then-sum-lt-BOOK_PLAIN
 returns-then-sum-lt-BOOK_PLAIN c =
@@ -94,7 +94,7 @@ returns : tie.Need-returns
 unfolding limit_of booked_of
 returns c =
     let d = c.before in
-    (got c.limited-2.result c.limited-2.type-inv).read
+    (got c.limited-2.result c.limited-2.type_inv).read
     ∙ c.limited-2.ensures
     ∙ ap (limit_to book_limit) (add (stopped d.before) (change_2 d) (total_fits d.before.before.before)).read
 

@@ -10,7 +10,7 @@ use Rattle.daybook.proofs.closed_book.Tie as tie
 returns : tie.Need-returns
 unfolding closed_of
 returns c =
-    let f : SFits w32 c.before.args.b.last = search sfits_of in
+    let f : SFits w32 c.args.b.last = search sfits_of in
     simp (to_z-of_z f)
 
 pub closed_book_spec : {M : Type 1} → statement M

@@ -34,7 +34,7 @@ abbrev entry : tie.After-is_in_day → tie.Start
 entry d = d.before.before.before
 
 in_day_lem : (c : tie.Then-is_in_day) → in_day (entry c.before).args.b ≡ true
-in_day_lem c = sym c.before.is_in_day.ensures ∙ c.if-is_in_day.true
+in_day_lem c = sym c.is_in_day.ensures ∙ c.if-is_in_day.true
 
 -- ---- what the code makes of each sum, and the definition
 abbrev refilled_by : Book → Bool → ℤ → ℤ → Book

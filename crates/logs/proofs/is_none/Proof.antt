@@ -17,7 +17,7 @@ byte_at-requires c κs = tt
 
 returns-then-byte_at-ne-MINUS : tie.Need-returns-then-byte_at-ne-MINUS
 unfolding is_none
-returns-then-byte_at-ne-MINUS c = simp (eq-eqb _ _ c.before.before.if-request-ne-NONE_LENGTH.false, ← c.before.byte_at.ensures, ne_eqb _ _ c.if-byte_at-ne-MINUS.true)
+returns-then-byte_at-ne-MINUS c = simp (eq-eqb _ _ c.if-request-ne-NONE_LENGTH.false, ← c.byte_at.ensures, ne_eqb _ _ c.if-byte_at-ne-MINUS.true)
 
 byte_at-requires-2 : tie.Need-byte_at-requires-2
 byte_at-requires-2 c κs = tt
@@ -27,7 +27,7 @@ unfolding is_none
 returns c =
     let first = c.before.before in
     ap (λ (b : ℕ). eqb b 45) c.byte_at-2.ensures
-    ∙ and_last (and_both (eq-eqb _ _ first.before.if-request-ne-NONE_LENGTH.false) (eq-eqb _ _ (sym first.byte_at.ensures ∙ c.before.if-byte_at-ne-MINUS.false)))
+    ∙ and_last (and_both (eq-eqb _ _ first.if-request-ne-NONE_LENGTH.false) (eq-eqb _ _ (sym first.byte_at.ensures ∙ c.if-byte_at-ne-MINUS.false)))
 
 pub is_none_spec : {M : Type 1} → statement M
 is_none_spec = tie.close (tie.spec returns-then-request-ne-NONE_LENGTH byte_at-requires returns-then-byte_at-ne-MINUS byte_at-requires-2 returns)

@@ -19,13 +19,13 @@ use Rattle.logs.proofs.log_line.Tie as tie
 -- what stands behind the count
 module _ (c : tie.After-is_rest) where
   abbrev L : List ℕ
-  L = c.before.before.before.before.before.before.before.args.line.now
+  L = c.args.line.now
 
   abbrev At : ℕ
-  At = c.before.before.before.count-1.given.0.1.0
+  At = c.in-Number.at
 
-  rest : c.before.part-rest.result.now ≡ drop At L
-  rest = c.before.part-rest.ensures ∙ part_to_end L At
+  rest : c.part-rest.result.now ≡ drop At L
+  rest = c.part-rest.ensures ∙ part_to_end L At
 
   tested : c.is_rest.result ≡ is_rest L At
   tested = c.is_rest.ensures ∙ rest_moved L At rest
@@ -36,12 +36,12 @@ number_at-requires c κs = tt
 enum_known-count : tie.Need-enum_known-count
 enum_known-count c = search rules
 
-enum_told : tie.Need-enum_told-1
-enum_told c = search rules
+enum_told-1 : tie.Need-enum_told-1
+enum_told-1 c = search rules
 
 returns-in_default : tie.Need-returns-in_default
 unfolding log_line_of
-returns-in_default c = simp (sym c.before.before.number_at.ensures ∙ c.enum_told-1.given.1)
+returns-in_default c = simp (sym c.number_at.ensures ∙ c.in_default.is)
 
 part-rest-requires : tie.Need-part-rest-requires
 part-rest-requires c κs = tt
@@ -55,22 +55,22 @@ byte_at-contact-requires c κs = tt
 overflow_add-request : tie.Need-overflow_add-request
 overflow_add-request c =
     let t = c.before.before in
-    omega (arith, rest_placed (L t) (At t) (sym (tested t) ∙ c.before.if-is_rest.true))
+    omega (arith, rest_placed (L t) (At t) (sym (tested t) ∙ c.if-is_rest.true))
 
 returns-then-is_rest : tie.Need-returns-then-is_rest
 unfolding log_line_of
 returns-then-is_rest c =
     let t = c.before.before in
-    let g = t.before.before.before in
-    let f : SFits w32 g.count-1.given.0.0 = search sfits_of in
-    simp (to_z-of_z f, sym g.before.before.number_at.ensures ∙ g.count-1.given.1, ← tested t, c.before.if-is_rest.true, c.byte_at-contact.ensures ∙ byte_moved (L t) (At t) (rest t) 1)
+    let g = t.before.before in
+    let f : SFits w32 g.in-Number.count = search sfits_of in
+    simp (to_z-of_z f, sym g.number_at.ensures ∙ g.in-Number.is, ← tested t, c.if-is_rest.true, c.byte_at-contact.ensures ∙ byte_moved (L t) (At t) (rest t) 1)
 
 returns : tie.Need-returns
 unfolding log_line_of
 returns c =
     let t = c.before in
-    let g = t.before.before.before in
-    simp (sym g.before.before.number_at.ensures ∙ g.count-1.given.1, ← tested t, c.if-is_rest.false)
+    let g = t.before.before in
+    simp (sym g.number_at.ensures ∙ g.in-Number.is, ← tested t, c.if-is_rest.false)
 
 pub log_line_spec : {M : Type 1} → statement M
 log_line_spec =
@@ -78,7 +78,7 @@ log_line_spec =
     (tie.spec
     number_at-requires
     enum_known-count
-    enum_told
+    enum_told-1
     returns-in_default
     part-rest-requires
     is_rest-requires

@@ -12,7 +12,7 @@ returns-then-at-s : tie.Need-returns-then-at-s
 returns-then-at-s c = search rules
 
 returns-else-at-s : tie.Need-returns-else-at-s
-returns-else-at-s c = sym (get_or-eq_default c.before.args.s.now 0 c.if-at-s.false)
+returns-else-at-s c = sym (get_or-eq_default c.args.s.now 0 c.if-at-s.false)
 
 pub byte_at_spec : {M : Type 1} → statement M
 byte_at_spec = tie.close (tie.spec bounds-s-at returns-then-at-s returns-else-at-s)

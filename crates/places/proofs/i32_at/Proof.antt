@@ -14,7 +14,7 @@ to_i32-requires : tie.Need-to_i32-requires
 to_i32-requires c κs = search rules
 
 returns : tie.Need-returns
-returns c = to_z-of_z w32 _ (record { sfits = c.to_i32.type-inv }) ∙ c.to_i32.ensures ∙ ap (signed w32) c.before.u32_at.ensures
+returns c = to_z-of_z w32 _ (record { sfits = c.to_i32.type_inv }) ∙ c.to_i32.ensures ∙ ap (signed w32) c.u32_at.ensures
 
 pub i32_at_spec : {M : Type 1} → statement M
 i32_at_spec = tie.close (tie.spec u32_at-requires to_i32-requires returns)

@@ -14,7 +14,7 @@ to_i64-requires : tie.Need-to_i64-requires
 to_i64-requires c κs = search rules
 
 returns : tie.Need-returns
-returns c = to_z-of_z w64 _ (record { sfits = c.to_i64.type-inv }) ∙ c.to_i64.ensures ∙ ap (signed w64) c.before.u64_at.ensures
+returns c = to_z-of_z w64 _ (record { sfits = c.to_i64.type_inv }) ∙ c.to_i64.ensures ∙ ap (signed w64) c.u64_at.ensures
 
 pub i64_at_spec : {M : Type 1} → statement M
 i64_at_spec = tie.close (tie.spec u64_at-requires to_i64-requires returns)

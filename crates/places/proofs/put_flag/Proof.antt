@@ -13,7 +13,7 @@ shape_of-s : tie.Need-shape_of-s
 shape_of-s c = search rules
 
 returns : tie.Need-returns
-returns c = simp (c.before.before.put_u8.ensures, c.before.before.before.flag_tag.ensures)
+returns c = simp (c.put_u8.ensures, c.flag_tag.ensures)
 
 pub put_flag_spec : {M : Type 1} → statement M
 put_flag_spec = tie.close (tie.spec flag_tag-requires put_u8-requires shape_of-s returns)

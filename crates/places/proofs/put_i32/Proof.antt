@@ -20,7 +20,7 @@ shape_of-s c = search rules
 returns : tie.Need-returns
 returns c =
     let a = c.before.before.before.before.before.before in
-    c.before.before.put_u32.ensures ∙ ap (λ (x : ℕ). put_be 4 x a.args.s-1.now a.args.at) (c.before.before.before.of_i32.ensures ∙ ap (coded w32) (to_z-of_z w32 a.args.v a.ranges.v))
+    c.put_u32.ensures ∙ ap (λ (x : ℕ). put_be 4 x a.args.s.now a.args.at) (c.of_i32.ensures ∙ ap (coded w32) (to_z-of_z w32 a.args.v a.ranges.v))
 
 pub put_i32_spec : {M : Type 1} → statement M
 put_i32_spec = tie.close (tie.spec of_i32-requires put_u32-requires shape_of-s returns)

@@ -28,12 +28,12 @@ shape_of-s c = search rules
 
 returns : tie.Need-returns
 returns c =
-    let s = c.before.before.before.before.before.before.before.before.before.args.s-1.now in
-    let at = c.before.before.before.before.before.before.before.before.before.args.at in
-    let v = c.before.before.before.before.before.before.before.before.before.args.v in
-    c.before.before.put_u32-2.ensures
+    let s = c.args.s.now in
+    let at = c.args.at in
+    let v = c.args.v in
+    c.put_u32-2.ensures
     ∙ put_mod 4 v _ (at + 4)
-    ∙ ap (λ (l : List ℕ). put_be 4 v l (at + 4)) c.before.before.before.before.before.before.put_u32.ensures
+    ∙ ap (λ (l : List ℕ). put_be 4 v l (at + 4)) c.put_u32.ensures
     ∙ sym (put_add 4 4 v s at)
 
 pub put_u64_spec : {M : Type 1} → statement M

@@ -19,7 +19,7 @@ returns : tie.Need-returns
 unfolding put_be
 returns c =
     let a = c.before.before.before.before.before in
-    c.before.before.put_byte.ensures ∙ ap (λ (x : ℕ). set a.args.s-1.now a.args.at x) (sym (mod-eq_of_lt a.ranges.v.fits)) ∙ simp add-zero
+    c.put_byte.ensures ∙ ap (λ (x : ℕ). set a.args.s.now a.args.at x) (sym (mod-eq_of_lt a.ranges.v.fits)) ∙ simp add-zero
 
 pub put_u8_spec : {M : Type 1} → statement M
 put_u8_spec = tie.close (tie.spec put_byte-requires shape_of-s returns)

@@ -12,11 +12,11 @@ use Rattle.places.proofs.Numbers.{minus_one, signed_high}
 use Rattle.places.proofs.to_i32.Statement.{statement}
 use Rattle.places.proofs.to_i32.Tie as tie
 
-small : (c : tie.Else-u-lt2147483648) → 4294967295 - c.before.args.u < 2147483648
+small : (c : tie.Else-u-lt2147483648) → 4294967295 - c.args.u < 2147483648
 small c = omega arith
 
-is : (c : tie.Else-u-lt2147483648) → negsuc 0 -ℤ to_z w32 (4294967295 - c.before.args.u) ≡ negsuc (4294967295 - c.before.args.u)
-is c = ap (λ (z : ℤ). negsuc 0 -ℤ z) (to_z_pos w32 (4294967295 - c.before.args.u) (small c)) ∙ minus_one (4294967295 - c.before.args.u)
+is : (c : tie.Else-u-lt2147483648) → negsuc 0 -ℤ to_z w32 (4294967295 - c.args.u) ≡ negsuc (4294967295 - c.args.u)
+is c = ap (λ (z : ℤ). negsuc 0 -ℤ z) (to_z_pos w32 (4294967295 - c.args.u) (small c)) ∙ minus_one (4294967295 - c.args.u)
 
 overflow_cast-result : tie.Need-overflow_cast-result
 overflow_cast-result c = search rules
@@ -37,8 +37,8 @@ returns-then-u-lt2147483648 c = search rules
 returns-else-u-lt2147483648 : tie.Need-returns-else-u-lt2147483648
 returns-else-u-lt2147483648 c =
     ap (λ (z : ℤ). to_z w32 (of_z w32 z)) (is c)
-    ∙ to_z-of_z w32 (negsuc (4294967295 - c.before.args.u)) (record { sfits = small c })
-    ∙ sym (signed_high w32 c.before.args.u c.if-u-lt2147483648.false)
+    ∙ to_z-of_z w32 (negsuc (4294967295 - c.args.u)) (record { sfits = small c })
+    ∙ sym (signed_high w32 c.args.u c.if-u-lt2147483648.false)
 
 pub to_i32_spec : {M : Type 1} → statement M
 to_i32_spec =

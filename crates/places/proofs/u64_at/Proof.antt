@@ -30,9 +30,9 @@ overflow_add-result c = search rules
 
 returns : tie.Need-returns
 returns c =
-    let s = c.before.before.before.args.s.now in
-    let at = c.before.before.before.args.at in
-    ap (λ (x : ℕ). x * 4294967296 + c.u32_at-l.result) c.before.u32_at-h.ensures
+    let s = c.args.s.now in
+    let at = c.args.at in
+    ap (λ (x : ℕ). x * 4294967296 + c.u32_at-l.result) c.u32_at-h.ensures
     ∙ ap (λ (x : ℕ). be_at 4 s at * 4294967296 + x) c.u32_at-l.ensures
     ∙ sym (be_add 4 4 s at)
 

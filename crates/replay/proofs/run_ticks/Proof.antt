@@ -6,84 +6,84 @@ use borrow.Author.Rules.{rules}
 use Rattle.replay.proofs.run_ticks.Statement.{statement}
 use Rattle.replay.proofs.run_ticks.Tie as tie
 
-abbrev invariant_loop : tie.invariant-loop-turns
-invariant_loop s space₀ reply₀ out₀ at₀ state₀ line₀ turns₀ space reply out at state line turns = (length space ≡ length space₀) × (length reply ≡ length reply₀) × (length out ≡ 65536)
+abbrev invariant-loop-turns : tie.invariant-loop-turns
+invariant-loop-turns s space₀ reply₀ out₀ at₀ state₀ line₀ turns₀ space reply out at state line turns = (length space ≡ length space₀) × (length reply ≡ length reply₀) × (length out ≡ 65536)
 
-abbrev decreases_loop : tie.decreases-loop-turns
-decreases_loop s space₀ reply₀ out₀ at₀ state₀ line₀ turns₀ space reply out at state line turns = turns
+abbrev decreases-loop-turns : tie.decreases-loop-turns
+decreases-loop-turns s space₀ reply₀ out₀ at₀ state₀ line₀ turns₀ space reply out at state line turns = turns
 
-large_buffer-out-requires : tie.Need-large_buffer-out-requires invariant_loop decreases_loop
+large_buffer-out-requires : tie.Need-large_buffer-out-requires invariant-loop-turns decreases-loop-turns
 large_buffer-out-requires c κs = search rules
 
-slice_bounds-put_opened-end : tie.Need-slice_bounds-put_opened-end invariant_loop decreases_loop
+slice_bounds-put_opened-end : tie.Need-slice_bounds-put_opened-end invariant-loop-turns decreases-loop-turns
 slice_bounds-put_opened-end c = search rules
 
-put_opened-at-requires : tie.Need-put_opened-at-requires invariant_loop decreases_loop
+put_opened-at-requires : tie.Need-put_opened-at-requires invariant-loop-turns decreases-loop-turns
 put_opened-at-requires c κs = search rules
 
-open_state-state-requires : tie.Need-open_state-state-requires invariant_loop decreases_loop
+open_state-state-requires : tie.Need-open_state-state-requires invariant-loop-turns decreases-loop-turns
 open_state-state-requires c κs = search rules
 
-next_line-line-requires : tie.Need-next_line-line-requires invariant_loop decreases_loop
+next_line-line-requires : tie.Need-next_line-line-requires invariant-loop-turns decreases-loop-turns
 next_line-line-requires c κs = search rules
 
-loop-turns-init : tie.Need-loop-turns-init invariant_loop decreases_loop
+loop-turns-init : tie.Need-loop-turns-init invariant-loop-turns decreases-loop-turns
 loop-turns-init c = search rules
 
-request_in-request-requires : tie.Need-request_in-request-requires invariant_loop decreases_loop
+request_in-request-requires : tie.Need-request_in-request-requires invariant-loop-turns decreases-loop-turns
 request_in-request-requires c κs = search rules
 
-request_tick-t-requires : tie.Need-request_tick-t-requires invariant_loop decreases_loop
+request_tick-t-requires : tie.Need-request_tick-t-requires invariant-loop-turns decreases-loop-turns
 request_tick-t-requires c κs = search rules
 
-slice_bounds-put_tick-end : tie.Need-slice_bounds-put_tick-end invariant_loop decreases_loop
+slice_bounds-put_tick-end : tie.Need-slice_bounds-put_tick-end invariant-loop-turns decreases-loop-turns
 slice_bounds-put_tick-end c = search rules
 
-put_tick-at-requires : tie.Need-put_tick-at-requires invariant_loop decreases_loop
+put_tick-at-requires : tie.Need-put_tick-at-requires invariant-loop-turns decreases-loop-turns
 put_tick-at-requires c κs = search rules
 
-next_line-line-requires-in-loop-turns : tie.Need-next_line-line-requires-in-loop-turns invariant_loop decreases_loop
+next_line-line-requires-in-loop-turns : tie.Need-next_line-line-requires-in-loop-turns invariant-loop-turns decreases-loop-turns
 next_line-line-requires-in-loop-turns c κs = search rules
 
-overflow_sub-turns : tie.Need-overflow_sub-turns invariant_loop decreases_loop
-overflow_sub-turns c = omega (arith, c.before.before.before.before.before.before.before.before.before.before.before.before.before.before.before.before.before.loop-turns-test.true)
+overflow_sub-turns : tie.Need-overflow_sub-turns invariant-loop-turns decreases-loop-turns
+overflow_sub-turns c = omega (arith, c.loop-test.true)
 
-loop-turns-smaller : tie.Need-loop-turns-smaller invariant_loop decreases_loop
-loop-turns-smaller c = omega (arith, c.before.before.before.before.before.before.before.before.before.before.before.before.before.before.before.before.before.loop-turns-test.true)
+loop-turns-smaller : tie.Need-loop-turns-smaller invariant-loop-turns decreases-loop-turns
+loop-turns-smaller c = omega (arith, c.loop-test.true)
 
-loop-turns-preserved : tie.Need-loop-turns-preserved invariant_loop decreases_loop
+loop-turns-preserved : tie.Need-loop-turns-preserved invariant-loop-turns decreases-loop-turns
 loop-turns-preserved c =
     let r = c.before.before.before.before.before.before.before.before.before.before in
-    let l = r.before.before.before.before.before.before.before.before.loop-turns.invariant in
-    (omega (arith, c.before.space-in-loop-turns-1.given, l.0), omega (arith, r.reply-1.given, l.1), search rules)
+    let l = r.loop.invariant in
+    (omega (arith, c.space-in-loop-turns-1.given, l.0), omega (arith, r.reply.given, l.1), search rules)
 
-slice_bounds-put_end-end : tie.Need-slice_bounds-put_end-end invariant_loop decreases_loop
+slice_bounds-put_end-end : tie.Need-slice_bounds-put_end-end invariant-loop-turns decreases-loop-turns
 slice_bounds-put_end-end c = search rules
 
-put_end-end-requires : tie.Need-put_end-end-requires invariant_loop decreases_loop
+put_end-end-requires : tie.Need-put_end-end-requires invariant-loop-turns decreases-loop-turns
 put_end-end-requires c κs = search rules
 
-slice_bounds-written-end : tie.Need-slice_bounds-written-end invariant_loop decreases_loop
+slice_bounds-written-end : tie.Need-slice_bounds-written-end invariant-loop-turns decreases-loop-turns
 slice_bounds-written-end c = search rules
 
-written-requires : tie.Need-written-requires invariant_loop decreases_loop
+written-requires : tie.Need-written-requires invariant-loop-turns decreases-loop-turns
 written-requires c κs = search rules
 
-shape_of-space : tie.Need-shape_of-space invariant_loop decreases_loop
+shape_of-space : tie.Need-shape_of-space invariant-loop-turns decreases-loop-turns
 shape_of-space c = search rules
 
-shape_of-reply : tie.Need-shape_of-reply invariant_loop decreases_loop
+shape_of-reply : tie.Need-shape_of-reply invariant-loop-turns decreases-loop-turns
 shape_of-reply c = search rules
 
-returns : tie.Need-returns invariant_loop decreases_loop
+returns : tie.Need-returns invariant-loop-turns decreases-loop-turns
 returns c = search rules
 
 pub run_ticks_spec : {M : Type 1} → statement M
 run_ticks_spec =
     tie.close
     (tie.spec
-    invariant_loop
-    decreases_loop
+    invariant-loop-turns
+    decreases-loop-turns
     large_buffer-out-requires
     slice_bounds-put_opened-end
     put_opened-at-requires

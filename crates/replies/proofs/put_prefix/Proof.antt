@@ -7,7 +7,7 @@ use Rattle.replies.proofs.put_prefix.Statement.{statement}
 use Rattle.replies.proofs.put_prefix.Tie as tie
 
 put_byte-n-requires : tie.Need-put_byte-n-requires
-put_byte-n-requires c κs = omega (arith, prefix_three c.before.if-address-gt0.true)
+put_byte-n-requires c κs = omega (arith, prefix_three c.if-address-gt0.true)
 
 overflow_add-address : tie.Need-overflow_add-address
 overflow_add-address c = search rules
@@ -16,13 +16,13 @@ overflow_add-address-then-address-gt0 : tie.Need-overflow_add-address-then-addre
 overflow_add-address-then-address-gt0 c = search rules
 
 put_pair-requires : tie.Need-put_pair-requires
-put_pair-requires c κs = omega (arith, prefix_three c.before.before.before.before.before.if-address-gt0.true)
+put_pair-requires c κs = omega (arith, prefix_three c.if-address-gt0.true)
 
 shape_of-buffer : tie.Need-shape_of-buffer
 shape_of-buffer c = search rules
 
 returns-then-address-gt0 : tie.Need-returns-then-address-gt0
-returns-then-address-gt0 c = prefix_some c.before.before.before.before.before.before.before.before.if-address-gt0.true (more c.before.before.before.before.before.before.put_byte-n.ensures c.before.before.put_pair.ensures)
+returns-then-address-gt0 c = prefix_some c.if-address-gt0.true (more c.put_byte-n.ensures c.put_pair.ensures)
 
 returns-else-address-gt0 : tie.Need-returns-else-address-gt0
 returns-else-address-gt0 c = prefix_none _ c.if-address-gt0.false

@@ -17,8 +17,8 @@ text_length-text-requires c κs = search rules
 
 returns-then-text-eq0 : tie.Need-returns-then-text-eq0
 returns-then-text-eq0 c =
-    let a = c.before.before.before.args in
-    simp (no_text a.address a.r (sym c.before.text_length-text.ensures ∙ c.if-text-eq0.true)) (silent_answer _, silent_bytes _)
+    let a = c.args in
+    simp (no_text a.address a.r (sym c.text_length-text.ensures ∙ c.if-text-eq0.true)) (silent_answer _, silent_bytes _)
 
 prefix_length-prefix-requires : tie.Need-prefix_length-prefix-requires
 prefix_length-prefix-requires c κs = search rules
@@ -27,17 +27,17 @@ overflow_cast-prefix : tie.Need-overflow_cast-prefix
 overflow_cast-prefix c = search rules
 
 overflow_add-prefix : tie.Need-overflow_add-prefix
-overflow_add-prefix c = omega (arith, prefix_short c.before.before.before.before.args.address, text_short c.before.before.before.before.args.r)
+overflow_add-prefix c = omega (arith, prefix_short c.args.address, text_short c.args.r)
 
 overflow_add-prefix-2 : tie.Need-overflow_add-prefix-2
-overflow_add-prefix-2 c = omega (arith, prefix_short c.before.before.before.before.args.address, text_short c.before.before.before.before.args.r)
+overflow_add-prefix-2 c = omega (arith, prefix_short c.args.address, text_short c.args.r)
 
 returns-then-buffer-prefix : tie.Need-returns-then-buffer-prefix
 returns-then-buffer-prefix c =
-    let a = c.before.before.before.before.before.args in
+    let a = c.args in
     let xs = framed a.address (text_of a.r) in
-    let h : length a.buffer-1.now < length xs = rw (length_framed a.address a.r) (omega arith) in
-    simp (some_text a.address a.r (λ e. c.before.before.if-text-eq0.false (c.before.before.before.text_length-text.ensures ∙ e))) (short_answer xs a.buffer-1.now h, short_bytes xs a.buffer-1.now h)
+    let h : length a.buffer.now < length xs = rw (length_framed a.address a.r) (omega arith) in
+    simp (some_text a.address a.r (λ e. c.if-text-eq0.false (c.text_length-text.ensures ∙ e))) (short_answer xs a.buffer.now h, short_bytes xs a.buffer.now h)
 
 put_prefix-n-requires : tie.Need-put_prefix-n-requires
 put_prefix-n-requires c κs = search rules
@@ -59,8 +59,8 @@ returns c =
     let prefix = text.before.before.before.before in
     let all = more (more prefix.put_prefix-n.ensures text.put_text-n.ensures) end.put_pair-n.ensures in
     let test = prefix.before.before.before.before in
-    let a = test.before.before.before.args in
-    simp (some_text a.address a.r (λ e. test.if-text-eq0.false (test.before.text_length-text.ensures ∙ e))) (fitted_answer all (omega arith), fitted_bytes all (omega arith))
+    let a = test.args in
+    simp (some_text a.address a.r (λ e. test.if-text-eq0.false (test.text_length-text.ensures ∙ e))) (fitted_answer all (omega arith), fitted_bytes all (omega arith))
 
 pub write_reply_spec : {M : Type 1} → statement M
 write_reply_spec =

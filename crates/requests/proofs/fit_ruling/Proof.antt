@@ -7,7 +7,7 @@ returns-then-not-x : tie.Need-returns-then-not-x
 returns-then-not-x c = simp c.if-not-x.true
 
 returns-then-x : tie.Need-returns-then-x
-returns-then-x c = simp (c.if-x.true, c.before.if-not-x.false)
+returns-then-x c = simp (c.if-x.true, c.if-not-x.false)
 
 returns : tie.Need-returns
 returns c = search rules

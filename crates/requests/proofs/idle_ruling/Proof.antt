@@ -10,7 +10,7 @@ returns-then-is_idle : tie.Need-returns-then-is_idle
 returns-then-is_idle c = search rules
 
 returns : tie.Need-returns
-returns c = simp (c.if-is_idle.false, ← c.before.is_idle.ensures)
+returns c = simp (c.if-is_idle.false, ← c.is_idle.ensures)
 
 pub idle_ruling_spec : {M : Type 1} → statement M
 idle_ruling_spec = tie.close (tie.spec is_idle-requires returns-then-is_idle returns)

@@ -13,11 +13,11 @@ raw s = search sfits_of
 divisions : (s : tie.Start) → SFits w64 s.args.x.divisions
 divisions s = search sfits_of
 
-enum_told : tie.Need-enum_told-1
-enum_told c = search rules
+enum_told-1 : tie.Need-enum_told-1
+enum_told-1 c = search rules
 
 returns-in-Nothing : tie.Need-returns-in-Nothing
-returns-in-Nothing c = simp c.enum_told-1.given.1
+returns-in-Nothing c = simp c.in-Nothing.is
 
 enum_told-in-Zero : tie.Need-enum_told-in-Zero
 enum_told-in-Zero c = search rules
@@ -37,10 +37,10 @@ returns-in-Zero c =
     let m = z.before.before in
     simp (
       c.fit_ruling.ensures,
-      c.before.still_ruling.ensures,
+      c.still_ruling.ensures,
       z.in_zero_range-inside.ensures,
-      to_z-of_z (raw m.before.before),
-      m.enum_told-in-Zero-1.given.1,
+      to_z-of_z (raw m.before),
+      m.in-Zero.is,
     )
 
 enum_told-in-Tare : tie.Need-enum_told-in-Tare
@@ -61,10 +61,10 @@ returns-in-Tare c =
     let m = z.before.before in
     simp (
       c.fit_ruling-in-Tare.ensures,
-      c.before.still_ruling-in-Tare.ensures,
+      c.still_ruling-in-Tare.ensures,
       z.in_tare_range-inside.ensures,
-      to_z-of_z (divisions m.before.before),
-      m.enum_told-in-Tare-1.given.1,
+      to_z-of_z (divisions m.before),
+      m.in-Tare.is,
     )
 
 enum_told-in-TareClear : tie.Need-enum_told-in-TareClear
@@ -74,7 +74,7 @@ idle_ruling-requires : tie.Need-idle_ruling-requires
 idle_ruling-requires c κs = search rules
 
 returns-in-TareClear : tie.Need-returns-in-TareClear
-returns-in-TareClear c = simp (c.idle_ruling.ensures, c.before.enum_told-in-TareClear-1.given.1)
+returns-in-TareClear c = simp (c.idle_ruling.ensures, c.in-TareClear.is)
 
 enum_told-in-Start : tie.Need-enum_told-in-Start
 enum_told-in-Start c = search rules
@@ -86,13 +86,13 @@ fit_ruling-requires-in-Start : tie.Need-fit_ruling-requires-in-Start
 fit_ruling-requires-in-Start c κs = search rules
 
 returns-in-Start : tie.Need-returns-in-Start
-returns-in-Start c = simp (c.fit_ruling-in-Start.ensures, c.before.idle_ruling-in-Start.ensures, c.before.before.enum_told-in-Start-1.given.1)
+returns-in-Start c = simp (c.fit_ruling-in-Start.ensures, c.idle_ruling-in-Start.ensures, c.in-Start.is)
 
 enum_told-in-Stop : tie.Need-enum_told-in-Stop
 enum_told-in-Stop c = search rules
 
 returns-in-Stop : tie.Need-returns-in-Stop
-returns-in-Stop c = simp c.enum_told-in-Stop-1.given.1
+returns-in-Stop c = simp c.in-Stop.is
 
 enum_known-r : tie.Need-enum_known-r
 enum_known-r c = search rules
@@ -101,13 +101,13 @@ set_ruling-requires : tie.Need-set_ruling-requires
 set_ruling-requires c κs = search rules
 
 returns-in-Set : tie.Need-returns-in-Set
-returns-in-Set c = simp (c.set_ruling.ensures, c.before.before.r-1.given.1)
+returns-in-Set c = simp (c.set_ruling.ensures, c.in-Set.is)
 
 enum_told-in-TotalClear : tie.Need-enum_told-in-TotalClear
 enum_told-in-TotalClear c = search rules
 
 returns-in-TotalClear : tie.Need-returns-in-TotalClear
-returns-in-TotalClear c = simp c.enum_told-in-TotalClear-1.given.1
+returns-in-TotalClear c = simp c.in-TotalClear.is
 
 enum_told-in-Undo : tie.Need-enum_told-in-Undo
 enum_told-in-Undo c = search rules
@@ -116,19 +116,19 @@ undo_ruling-requires : tie.Need-undo_ruling-requires
 undo_ruling-requires c κs = search rules
 
 returns-in-Undo : tie.Need-returns-in-Undo
-returns-in-Undo c = simp (c.undo_ruling.ensures, c.before.enum_told-in-Undo-1.given.1)
+returns-in-Undo c = simp (c.undo_ruling.ensures, c.in-Undo.is)
 
 enum_told-in-ShowGross : tie.Need-enum_told-in-ShowGross
 enum_told-in-ShowGross c = search rules
 
 returns-in-ShowGross : tie.Need-returns-in-ShowGross
-returns-in-ShowGross c = simp c.enum_told-in-ShowGross-1.given.1
+returns-in-ShowGross c = simp c.in-ShowGross.is
 
 enum_told-in-ShowNet : tie.Need-enum_told-in-ShowNet
 enum_told-in-ShowNet c = search rules
 
 returns-in-ShowNet : tie.Need-returns-in-ShowNet
-returns-in-ShowNet c = simp c.enum_told-in-ShowNet-1.given.1
+returns-in-ShowNet c = simp c.in-ShowNet.is
 
 enum_told-in-DayClose : tie.Need-enum_told-in-DayClose
 enum_told-in-DayClose c = search rules
@@ -137,7 +137,7 @@ good_ruling-requires : tie.Need-good_ruling-requires
 good_ruling-requires c κs = search rules
 
 returns-in-DayClose : tie.Need-returns-in-DayClose
-returns-in-DayClose c = simp (c.good_ruling.ensures, c.before.enum_told-in-DayClose-1.given.1)
+returns-in-DayClose c = simp (c.good_ruling.ensures, c.in-DayClose.is)
 
 enum_told-in-Discharge : tie.Need-enum_told-in-Discharge
 enum_told-in-Discharge c = search rules
@@ -155,16 +155,16 @@ returns-in-Discharge : tie.Need-returns-in-Discharge
 returns-in-Discharge c =
     simp (
       c.fit_ruling-in-Discharge.ensures,
-      c.before.idle_ruling-in-Discharge.ensures,
-      c.before.before.mode_ruling.ensures,
-      c.before.before.before.enum_told-in-Discharge-1.given.1,
+      c.idle_ruling-in-Discharge.ensures,
+      c.mode_ruling.ensures,
+      c.in-Discharge.is,
     )
 
 pub ruling_spec : {M : Type 1} → statement M
 ruling_spec =
     tie.close
     (tie.spec
-    enum_told
+    enum_told-1
     returns-in-Nothing
     enum_told-in-Zero
     in_zero_range-inside-requires

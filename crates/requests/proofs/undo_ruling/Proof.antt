@@ -7,7 +7,7 @@ has_none_back-requires : tie.Need-has_none_back-requires
 has_none_back-requires c κs = search rules
 
 returns-then-has_none_back : tie.Need-returns-then-has_none_back
-returns-then-has_none_back c = simp (c.if-has_none_back.true, ← c.before.has_none_back.ensures)
+returns-then-has_none_back c = simp (c.if-has_none_back.true, ← c.has_none_back.ensures)
 
 returns : tie.Need-returns
 returns c = search rules

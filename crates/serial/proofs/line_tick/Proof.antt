@@ -55,20 +55,20 @@ numbered s st count contact receive buffer r after e =
 returns-in-Bytes : tie.Need-returns-in-Bytes
 returns-in-Bytes c =
     let n = c.before.before.before in
-    let w = n.before.before.before.before in
+    let w = n.before.before in
     let d = w.before.before in
     let t = d.before.before in
     let r = t.before in
     let start = r.before.before.before.before in
     let a = start.args in
     let asked = simp (to_z-of_z start.ranges.count) at t.tick-t.ensures.0 in
-    numbered a.s a.st a.count a.contact a.receive.now a.reply-1.now _ _
-    (fitted a.s a.st a.count a.contact a.receive.now a.reply-1.now _ _ _ _ _ _ r.before.command_of-command.ensures r.request_of-request.ensures asked
+    numbered a.s a.st a.count a.contact a.receive.now a.reply.now _ _
+    (fitted a.s a.st a.count a.contact a.receive.now a.reply.now _ _ _ _ _ _ r.command_of-command.ensures r.request_of-request.ensures asked
     d.reply_due-due.ensures w.write_reply.ensures.0 w.write_reply.ensures.1
-    _ n.length-1.given.1 _ c.before.told_of.ensures _ c.with_line.ensures)
+    _ n.in-Bytes.is _ c.told_of.ensures _ c.with_line.ensures)
 
-enum_told : tie.Need-enum_told-1
-enum_told c = search rules
+enum_told-1 : tie.Need-enum_told-1
+enum_told-1 c = search rules
 
 silent_tick-requires : tie.Need-silent_tick-requires
 silent_tick-requires c κs = search rules
@@ -78,17 +78,17 @@ shape_of-reply-in-Short c = search rules
 
 returns-in-Short : tie.Need-returns-in-Short
 returns-in-Short c =
-    let w = c.before.before.before.before.before in
+    let w = c.before.before.before.before in
     let d = w.before.before in
     let t = d.before.before in
     let r = t.before in
     let start = r.before.before.before.before in
     let a = start.args in
     let asked = simp (to_z-of_z start.ranges.count) at t.tick-t.ensures.0 in
-    numbered a.s a.st a.count a.contact a.receive.now a.reply-1.now _ _
-    (short a.s a.st a.count a.contact a.receive.now a.reply-1.now _ _ _ _ _ _ r.before.command_of-command.ensures r.request_of-request.ensures asked
+    numbered a.s a.st a.count a.contact a.receive.now a.reply.now _ _
+    (short a.s a.st a.count a.contact a.receive.now a.reply.now _ _ _ _ _ _ r.command_of-command.ensures r.request_of-request.ensures asked
     d.reply_due-due.ensures w.write_reply.ensures.0 w.write_reply.ensures.1
-    c.before.enum_told-1.given.1 _ (simp (to_z-of_z start.ranges.count) at c.silent_tick.ensures))
+    c.in-Short.is _ (simp (to_z-of_z start.ranges.count) at c.silent_tick.ensures))
 
 pub line_tick_spec : {M : Type 1} → statement M
 line_tick_spec =
@@ -104,7 +104,7 @@ line_tick_spec =
     with_line-requires
     shape_of-reply-in-Bytes
     returns-in-Bytes
-    enum_told
+    enum_told-1
     silent_tick-requires
     shape_of-reply-in-Short
     returns-in-Short)

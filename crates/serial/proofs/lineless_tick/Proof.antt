@@ -8,7 +8,7 @@ silent_tick-requires : tie.Need-silent_tick-requires
 silent_tick-requires c κs = search rules
 
 returns : tie.Need-returns
-returns c = simp (to_z-of_z c.before.ranges.count) at c.silent_tick.ensures
+returns c = simp (to_z-of_z c.ranges.count) at c.silent_tick.ensures
 
 pub lineless_tick_spec : {M : Type 1} → statement M
 lineless_tick_spec = tie.close (tie.spec silent_tick-requires returns)

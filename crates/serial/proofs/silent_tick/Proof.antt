@@ -11,7 +11,7 @@ with_line-requires : tie.Need-with_line-requires
 with_line-requires c κs = search rules
 
 returns : tie.Need-returns
-returns c = simp (c.with_line.ensures, c.before.unasked_tick-t.ensures.0, to_z-of_z c.before.before.ranges.count)
+returns c = simp (c.with_line.ensures, c.unasked_tick-t.ensures.0, to_z-of_z c.ranges.count)
 
 pub silent_tick_spec : {M : Type 1} → statement M
 silent_tick_spec = tie.close (tie.spec unasked_tick-t-requires with_line-requires returns)

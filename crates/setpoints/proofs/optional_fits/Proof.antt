@@ -8,30 +8,30 @@ use Rattle.whole.specs.Chains.{and_last, and_both, or_last}
 use Rattle.setpoints.proofs.optional_fits.Statement.{statement}
 use Rattle.setpoints.proofs.optional_fits.Tie as tie
 
-enum_told : tie.Need-enum_told-1
-enum_told c = search rules
+enum_told-1 : tie.Need-enum_told-1
+enum_told-1 c = search rules
 
 returns-then-p-eq0 : tie.Need-returns-then-p-eq0
-returns-then-p-eq0 c = simp (eq-eqb _ _ c.if-p-eq0.true, c.before.before.enum_told-1.given.1)
+returns-then-p-eq0 c = simp (eq-eqb _ _ c.if-p-eq0.true, c.in-Normal.is)
 
 returns-then-p : tie.Need-returns-then-p
-returns-then-p c = simp (le-ltb _ _ c.if-p.true, ne_eqb _ _ c.before.before.if-p-eq0.false, c.before.before.before.before.enum_told-1.given.1)
+returns-then-p c = simp (le-ltb _ _ c.if-p.true, ne_eqb _ _ c.if-p-eq0.false, c.in-Normal.is)
 
 returns-then-p-2 : tie.Need-returns-then-p-2
-returns-then-p-2 c = simp (le-ltb _ _ c.if-p-2.true, lt-ltb _ _ c.before.before.if-p.false, ne_eqb _ _ c.before.before.before.before.if-p-eq0.false, c.before.before.before.before.before.before.enum_told-1.given.1)
+returns-then-p-2 c = simp (le-ltb _ _ c.if-p-2.true, lt-ltb _ _ c.if-p.false, ne_eqb _ _ c.if-p-eq0.false, c.in-Normal.is)
 
 enum_told-in-Loss : tie.Need-enum_told-in-Loss
 enum_told-in-Loss c = search rules
 
 returns-else-p-2 : tie.Need-returns-else-p-2
 returns-else-p-2 c =
-    and_last (and_both (lt-ltb _ _ c.before.before.before.if-p.false) (lt-ltb _ _ c.before.if-p-2.false))
-    ∙ or_last (ne_eqb _ _ c.before.before.before.before.before.if-p-eq0.false)
-    ∙ ap (λ (m : Mode). optional_fits m c.before.before.before.before.before.before.before.before.before.args.p) (sym c.before.before.before.before.before.before.before.enum_told-1.given.1)
+    and_last (and_both (lt-ltb _ _ c.if-p.false) (lt-ltb _ _ c.if-p-2.false))
+    ∙ or_last (ne_eqb _ _ c.if-p-eq0.false)
+    ∙ ap (λ (m : Mode). optional_fits m c.args.p) (sym c.in-Normal.is)
 
 returns-in-Loss : tie.Need-returns-in-Loss
 returns-in-Loss c = search rules
 
 pub optional_fits_spec : {M : Type 1} → statement M
 optional_fits_spec =
-    tie.close (tie.spec enum_told returns-then-p-eq0 returns-then-p returns-then-p-2 enum_told-in-Loss returns-else-p-2 returns-in-Loss)
+    tie.close (tie.spec enum_told-1 returns-then-p-eq0 returns-then-p returns-then-p-2 enum_told-in-Loss returns-else-p-2 returns-in-Loss)

@@ -9,10 +9,10 @@ returns-then-p-eq0 : tie.Need-returns-then-p-eq0
 returns-then-p-eq0 c = simp (eq-eqb _ _ c.if-p-eq0.true)
 
 returns-then-p : tie.Need-returns-then-p
-returns-then-p c = simp (le-ltb _ _ c.if-p.true, ne_eqb _ _ c.before.before.if-p-eq0.false)
+returns-then-p c = simp (le-ltb _ _ c.if-p.true, ne_eqb _ _ c.if-p-eq0.false)
 
 returns : tie.Need-returns
-returns c = and_last (lt-ltb _ _ c.before.if-p.false) ∙ or_last (ne_eqb _ _ c.before.before.before.if-p-eq0.false)
+returns c = and_last (lt-ltb _ _ c.if-p.false) ∙ or_last (ne_eqb _ _ c.if-p-eq0.false)
 
 pub preliminary_fits_spec : {M : Type 1} → statement M
 preliminary_fits_spec = tie.close (tie.spec returns-then-p-eq0 returns-then-p returns)

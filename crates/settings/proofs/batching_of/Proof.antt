@@ -36,7 +36,7 @@ overflow_cast-result-6 : tie.Need-overflow_cast-result-6
 overflow_cast-result-6 c = let n = fits c.before.before.before.before.before.before.before.before.before.before.before.before.before.before in search rules
 
 discharging_of-requires : tie.Need-discharging_of-requires
-discharging_of-requires c κs = c.before.before.before.before.before.before.before.before.before.before.before.before.before.before.requires
+discharging_of-requires c κs = c.requires
 
 returns : tie.Need-returns
 unfolding settings_of
@@ -44,7 +44,7 @@ returns c =
     let casts = c.before in
     let h = held casts.before.before.before.before.before.before.before.before.before.before.before.before.before.before in
     simp (
-      casts.before.before.before.before.before.before.before.before.before.before.before.before.Mode-of.ensures,
+      casts.Mode-of.ensures,
       c.discharging_of.ensures,
       to_z-of_z h.mode,
       to_z-of_z h.start,

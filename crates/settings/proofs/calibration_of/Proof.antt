@@ -18,10 +18,10 @@ held s = search sfits_of
 fits : (s : tie.Start) → Narrow s.args.g
 fits s = narrow s.args.g (held s) s.requires
 
-counts : (c : tie.After-difference-counts) → Read w64 (of_z w64 c.difference-counts.result) (c.before.before.before.args.g.span -ℤ c.before.before.before.args.g.zero)
+counts : (c : tie.After-difference-counts) → Read w64 (of_z w64 c.difference-counts.result) (c.args.g.span -ℤ c.args.g.zero)
 counts c =
     let h = held c.before.before.before in
-    be (got c.difference-counts.result c.difference-counts.type-inv) (simp (c.difference-counts.ensures, to_z-of_z h.span, to_z-of_z h.zero))
+    be (got c.difference-counts.result c.difference-counts.type_inv) (simp (c.difference-counts.ensures, to_z-of_z h.span, to_z-of_z h.zero))
 
 difference-counts-requires : tie.Need-difference-counts-requires
 difference-counts-requires c κs = search rules

@@ -41,12 +41,12 @@ returns c =
     let p = c.before.before.before.before.before.before.before in
     let h = held p.before.before.before.before.before in
     simp (
-      p.before.before.before.before.calibration_of.ensures,
-      p.before.before.before.range_of.ensures,
-      p.before.before.tracking_of.ensures,
-      p.before.steadiness_of.ensures,
+      p.calibration_of.ensures,
+      p.range_of.ensures,
+      p.tracking_of.ensures,
+      p.steadiness_of.ensures,
       p.batching_of.ensures,
-      c.before.before.before.board_of.ensures,
+      c.board_of.ensures,
       c.scale_of.ensures,
       to_z-of_z h.address,
       to_z-of_z h.board,

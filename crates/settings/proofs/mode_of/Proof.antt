@@ -11,10 +11,10 @@ one : SFits w32 (pos 1)
 one = sfits_lit tt
 
 returns-then-m-eq1 : tie.Need-returns-then-m-eq1
-returns-then-m-eq1 c = simp (told_yes c.before.ranges.m one c.if-m-eq1.true)
+returns-then-m-eq1 c = simp (told_yes c.ranges.m one c.if-m-eq1.true)
 
 returns-else-m-eq1 : tie.Need-returns-else-m-eq1
-returns-else-m-eq1 c = simp (told_no c.before.ranges.m one c.if-m-eq1.false)
+returns-else-m-eq1 c = simp (told_no c.ranges.m one c.if-m-eq1.false)
 
 pub mode_of_spec : {M : Type 1} → statement M
 mode_of_spec = tie.close (tie.spec returns-then-m-eq1 returns-else-m-eq1)

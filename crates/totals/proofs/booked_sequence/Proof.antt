@@ -8,8 +8,8 @@ use Rattle.totals.proofs.booked_sequence.Statement.{statement}
 use Rattle.totals.proofs.booked_sequence.Tie as tie
 
 -- the answer that was given is that of v
-asked : (c : tie.After-is_bookable) → bookable c.before.args.t c.before.args.v ≡ c.is_bookable.result
-asked c = sym (c.is_bookable.ensures ∙ ap (bookable c.before.args.t) (to_z-of_z {w = w64} c.before.ranges.v))
+asked : (c : tie.After-is_bookable) → bookable c.args.t c.args.v ≡ c.is_bookable.result
+asked c = sym (c.is_bookable.ensures ∙ ap (bookable c.args.t) (to_z-of_z {w = w64} c.ranges.v))
 
 is_bookable-requires : tie.Need-is_bookable-requires
 is_bookable-requires c κs = search rules

@@ -29,22 +29,22 @@ module _ (t : Totals) (v : ℤ) (e : bookable t v ≡ true) where
   count_held = leb-true (suc t.count) batch_limit parts.1
 
 -- the answer that was given is that of v
-asked : (c : tie.After-is_bookable) → bookable c.before.args.t c.before.args.v ≡ c.is_bookable.result
-asked c = sym (c.is_bookable.ensures ∙ ap (bookable c.before.args.t) (to_z-of_z {w = w64} c.before.ranges.v))
+asked : (c : tie.After-is_bookable) → bookable c.args.t c.args.v ≡ c.is_bookable.result
+asked c = sym (c.is_bookable.ensures ∙ ap (bookable c.args.t) (to_z-of_z {w = w64} c.ranges.v))
 
 -- what is known where it is booked
-yes : (c : tie.Else-not-is_bookable) → bookable c.before.before.args.t c.before.before.args.v ≡ true
-yes c = asked c.before ∙ not-false c.before.is_bookable.result c.if-not-is_bookable.false
+yes : (c : tie.Else-not-is_bookable) → bookable c.args.t c.args.v ≡ true
+yes c = asked c.before ∙ not-false c.is_bookable.result c.if-not-is_bookable.false
 
-found : (c : tie.After-magnitude-weight) → c.magnitude-weight.result ≡ nat_abs c.before.before.before.args.v
-found c = c.magnitude-weight.ensures ∙ ap nat_abs (to_z-of_z {w = w64} c.before.before.before.ranges.v)
+found : (c : tie.After-magnitude-weight) → c.magnitude-weight.result ≡ nat_abs c.args.v
+found c = c.magnitude-weight.ensures ∙ ap nat_abs (to_z-of_z {w = w64} c.ranges.v)
 
 is_bookable-requires : tie.Need-is_bookable-requires
 is_bookable-requires c κs = search rules
 
 returns-then-not-is_bookable : tie.Need-returns-then-not-is_bookable
 unfolding booked_totals
-returns-then-not-is_bookable c = simp (asked c.before ∙ not-true c.before.is_bookable.result c.if-not-is_bookable.true)
+returns-then-not-is_bookable c = simp (asked c.before ∙ not-true c.is_bookable.result c.if-not-is_bookable.true)
 
 magnitude-weight-requires : tie.Need-magnitude-weight-requires
 magnitude-weight-requires c κs = search rules

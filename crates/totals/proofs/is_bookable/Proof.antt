@@ -29,8 +29,8 @@ sign : {t : Bool} (s : tie.Start) → lt_z (to_z w64 (of_z w64 s.args.v)) (pos 0
 sign s e = lt_is (arg s.ranges.v) (nat {w = w64} {n = 0} (lit< tt)) e
 
 -- the weight that was found
-found : (c : tie.After-magnitude-weight) → c.magnitude-weight.result ≡ nat_abs c.before.before.args.v
-found c = c.magnitude-weight.ensures ∙ ap nat_abs (to_z-of_z {w = w64} c.before.before.ranges.v)
+found : (c : tie.After-magnitude-weight) → c.magnitude-weight.result ≡ nat_abs c.args.v
+found c = c.magnitude-weight.ensures ∙ ap nat_abs (to_z-of_z {w = w64} c.ranges.v)
 
 returns-then-v-lt0 : tie.Need-returns-then-v-lt0
 returns-then-v-lt0 c = let s = c.before in simp (below s.args.v (sign s c.if-v-lt0.true))
@@ -42,21 +42,21 @@ returns-then-weight-gt-TOTAL_LIMIT : tie.Need-returns-then-weight-gt-TOTAL_LIMIT
 returns-then-weight-gt-TOTAL_LIMIT c =
     let s = c.before.before.before in
     simp
-    (least s.args.v (sign s c.before.before.if-v-lt0.false), lt-leb (s.args.t.total + nat_abs s.args.v) total_limit (omega (arith, found c.before, c.if-weight-gt-TOTAL_LIMIT.true)))
+    (least s.args.v (sign s c.if-v-lt0.false), lt-leb (s.args.t.total + nat_abs s.args.v) total_limit (omega (arith, found c.before, c.if-weight-gt-TOTAL_LIMIT.true)))
 
 returns-then-weight-t : tie.Need-returns-then-weight-t
 returns-then-weight-t c =
     let s = c.before.before.before.before.before in
     simp
-    (least s.args.v (sign s c.before.before.before.before.if-v-lt0.false), lt-leb (s.args.t.total + nat_abs s.args.v) total_limit (omega (arith, found c.before.before.before, c.if-weight-t.true)))
+    (least s.args.v (sign s c.if-v-lt0.false), lt-leb (s.args.t.total + nat_abs s.args.v) total_limit (omega (arith, found c.before.before.before, c.if-weight-t.true)))
 
 returns : tie.Need-returns
 returns c =
     let s = c.before.before.before.before.before.before in
     and_last
     (and_both
-    (least s.args.v (sign s c.before.before.before.before.before.if-v-lt0.false))
-    (le-leb (s.args.t.total + nat_abs s.args.v) total_limit (omega (arith, found c.before.before.before.before, c.before.if-weight-t.false, c.before.before.before.if-weight-gt-TOTAL_LIMIT.false))))
+    (least s.args.v (sign s c.if-v-lt0.false))
+    (le-leb (s.args.t.total + nat_abs s.args.v) total_limit (omega (arith, found c.before.before.before.before, c.if-weight-t.false, c.if-weight-gt-TOTAL_LIMIT.false))))
 
 pub is_bookable_spec : {M : Type 1} → statement M
 is_bookable_spec = tie.close (tie.spec returns-then-v-lt0 magnitude-weight-requires returns-then-weight-gt-TOTAL_LIMIT returns-then-weight-t returns)

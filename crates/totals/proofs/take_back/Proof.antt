@@ -4,8 +4,8 @@ use Rattle.outline.specs.Totals.{taken_back}
 use Rattle.totals.proofs.take_back.Statement.{statement}
 use Rattle.totals.proofs.take_back.Tie as tie
 
-enum_told : tie.Need-enum_told-1
-enum_told c = search rules
+enum_told-1 : tie.Need-enum_told-1
+enum_told-1 c = search rules
 
 enum_known-back : tie.Need-enum_known-back
 enum_known-back c = search rules
@@ -24,17 +24,17 @@ overflow_cast-result c = search rules
 
 returns-in-Nothing : tie.Need-returns-in-Nothing
 unfolding taken_back
-returns-in-Nothing c = simp c.enum_told-1.given.1
+returns-in-Nothing c = simp c.in-Nothing.is
 
 returns-in-Weight : tie.Need-returns-in-Weight
 unfolding taken_back
-returns-in-Weight c = simp (c.less-in-Weight.ensures, c.before.before.less.ensures, c.before.before.before.before.back-1.given.1)
+returns-in-Weight c = simp (c.less-in-Weight.ensures, c.less.ensures, c.in-Weight.is)
 
 pub take_back_spec : {M : Type 1} → statement M
 take_back_spec =
     tie.close
     (tie.spec
-    enum_told
+    enum_told-1
     enum_known-back
     less-requires
     overflow_cast-t

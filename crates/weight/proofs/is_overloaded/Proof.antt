@@ -14,7 +14,7 @@ magnitude-requires : tie.Need-magnitude-requires
 magnitude-requires c κs = search rules
 
 returns : tie.Need-returns
-returns c = simp (c.magnitude.ensures, to_z-of_z c.before.before.ranges.divisions)
+returns c = simp (c.magnitude.ensures, to_z-of_z c.ranges.divisions)
 
 pub is_overloaded_spec : {M : Type 1} → statement M
 is_overloaded_spec = tie.close (tie.spec overflow_cast-result overflow_add-result magnitude-requires returns)

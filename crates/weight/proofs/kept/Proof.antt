@@ -20,20 +20,20 @@ use Rattle.weight.proofs.kept.Tie as tie
 abbrev plain : ℕ
 plain = 1073741824
 
-small : (c : tie.Then-x-lt-DISPLAY_PLAIN) → nat_abs c.before.before.args.x ≤ plain
+small : (c : tie.Then-x-lt-DISPLAY_PLAIN) → nat_abs c.args.x ≤ plain
 small c =
     let s = c.before.before in
     let e = to_z-of_z s.ranges.x in
-    inside s.args.x plain (ap (le_z (neg_ℤ (pos plain))) (sym e) ∙ c.before.else-x.true) (ap (λ (x : ℤ). lt_z x (pos plain)) (sym e) ∙ c.if-x-lt-DISPLAY_PLAIN.true)
+    inside s.args.x plain (ap (le_z (neg_ℤ (pos plain))) (sym e) ∙ c.if-x.true) (ap (λ (x : ℤ). lt_z x (pos plain)) (sym e) ∙ c.if-x-lt-DISPLAY_PLAIN.true)
 
-small_fits : (c : tie.Then-x-lt-DISPLAY_PLAIN) → SFits w32 c.before.before.args.x
+small_fits : (c : tie.Then-x-lt-DISPLAY_PLAIN) → SFits w32 c.args.x
 small_fits c = fits_abs w32 (omega (arith, small c))
 
 overflow_sub-t-3 : tie.Need-overflow_sub-t-3
 overflow_sub-t-3 c = search rules
 
 overflow_cast-result : tie.Need-overflow_cast-result
-overflow_cast-result c = cast_need (arg c.before.before.ranges.x) (small_fits c)
+overflow_cast-result c = cast_need (arg c.ranges.x) (small_fits c)
 
 returns-then-x-lt-DISPLAY_PLAIN : tie.Need-returns-then-x-lt-DISPLAY_PLAIN
 returns-then-x-lt-DISPLAY_PLAIN c =
@@ -41,8 +41,8 @@ returns-then-x-lt-DISPLAY_PLAIN c =
     (cast (arg s.ranges.x) (small_fits c)).read ∙ sym (limit_plain display_limit s.args.x (omega (arith, small c)))
 
 -- ---- any weight
-stopped : (c : tie.After-limited) → Read w64 (of_z w64 c.limited.result) (kept_of c.before.before.args.x)
-stopped c = be (got c.limited.result c.limited.type-inv) (simp (c.limited.ensures, to_z-of_z c.before.before.ranges.x))
+stopped : (c : tie.After-limited) → Read w64 (of_z w64 c.limited.result) (kept_of c.args.x)
+stopped c = be (got c.limited.result c.limited.type_inv) (simp (c.limited.ensures, to_z-of_z c.ranges.x))
 
 fits : (s : tie.Start) → SFits w32 (kept_of s.args.x)
 fits s = fits_abs w32 (omega (arith, limit_abs display_limit s.args.x))

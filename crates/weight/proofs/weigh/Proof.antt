@@ -8,8 +8,8 @@ use Rattle.outline.specs.Weight.{weigh_of}
 use Rattle.weight.proofs.weigh.Statement.{statement}
 use Rattle.weight.proofs.weigh.Tie as tie
 
-enum_told : tie.Need-enum_told-1
-enum_told c = search rules
+enum_told-1 : tie.Need-enum_told-1
+enum_told-1 c = search rules
 
 is_stable-stable-requires : tie.Need-is_stable-stable-requires
 is_stable-stable-requires c κs = search rules
@@ -22,15 +22,15 @@ weigh_good-requires c κs = search rules
 
 returns-in-Bad : tie.Need-returns-in-Bad
 unfolding weigh_of
-returns-in-Bad c = simp (c.before.before.enum_told-1.given.1, c.is_stable-stable.ensures)
+returns-in-Bad c = simp (c.in-Bad.is, c.is_stable-stable.ensures)
 
 returns-in-Tenths : tie.Need-returns-in-Tenths
 returns-in-Tenths c =
-    let g = c.before.before in
-    let f : SFits w32 g.raw-1.given.0.0 = search sfits_of in
-    simp (c.weigh_good.ensures, to_z-of_z f, g.raw-1.given.1)
+    let g = c.before in
+    let f : SFits w32 g.in-Tenths.t = search sfits_of in
+    simp (c.weigh_good.ensures, to_z-of_z f, g.in-Tenths.is)
 
 pub weigh_spec : {M : Type 1} → statement M
 weigh_spec =
     tie.close
-    (tie.spec enum_told is_stable-stable-requires enum_known-raw weigh_good-requires returns-in-Bad returns-in-Tenths)
+    (tie.spec enum_told-1 is_stable-stable-requires enum_known-raw weigh_good-requires returns-in-Bad returns-in-Tenths)

@@ -25,37 +25,37 @@ abbrev fine_of : tie.Start → ℤ
 fine_of s = s.args.raw -ℤ s.args.w.zero
 
 abbrev gross_at : tie.Start → ℤ
-gross_at s = gross_of s.args.s.range-1 (divisions_of (fine_of s))
+gross_at s = gross_of s.args.s.range (divisions_of (fine_of s))
 
 product_fits : (s : tie.Start) → SFits w64 (gross_at s)
 product_fits s =
     let few : nat_abs (divisions_of (fine_of s)) ≤ 4294967296 =
     omega (arith, abs_nearest (fine_of s) 10, nearest_le (nat_abs (fine_of s)) 10, diff_abs s.ranges.raw (zero_fits s)) in
-    mul_fits w64 4294967296 255 (divisions_of (fine_of s)) s.args.s.range-1.division few (omega arith) tt
+    mul_fits w64 4294967296 255 (divisions_of (fine_of s)) s.args.s.range.division few (omega arith) tt
 
 -- and of the code
 fine : (c : tie.After-difference-fine) → Read w64 (of_z w64 c.difference-fine.result) (fine_of c.before.before)
 fine c =
     let s = c.before.before in
-    be (got c.difference-fine.result c.difference-fine.type-inv) (simp (c.difference-fine.ensures, to_z-of_z s.ranges.raw, to_z-of_z (zero_fits s)))
+    be (got c.difference-fine.result c.difference-fine.type_inv) (simp (c.difference-fine.ensures, to_z-of_z s.ranges.raw, to_z-of_z (zero_fits s)))
 
 divisions : (c : tie.After-nearest-divisions) → Read w64 (of_z w64 c.nearest-divisions.result) (divisions_of (fine_of c.before.before.before))
-divisions c = be (got c.nearest-divisions.result c.nearest-divisions.type-inv) (c.nearest-divisions.ensures ∙ ap divisions_of (fine c.before).read)
+divisions c = be (got c.nearest-divisions.result c.nearest-divisions.type_inv) (c.nearest-divisions.ensures ∙ ap divisions_of (fine c.before).read)
 
-division : (s : tie.Start) → Read w64 s.args.s.range-1.division (pos s.args.s.range-1.division)
+division : (s : tie.Start) → Read w64 s.args.s.range.division (pos s.args.s.range.division)
 division s = nat (omega arith)
 
 gross : (c : tie.After-kept-gross) → Read w32 (of_z w32 c.kept-gross.result) (kept_of (gross_at c.before.before.before.before.before.before))
 gross c =
     let s = c.before.before.before.before.before.before in
-    be (got c.kept-gross.result c.kept-gross.type-inv) (c.kept-gross.ensures ∙ ap kept_of (mul (divisions c.before.before.before) (division s) (product_fits s)).read)
+    be (got c.kept-gross.result c.kept-gross.type_inv) (c.kept-gross.ensures ∙ ap kept_of (mul (divisions c.before.before.before) (division s) (product_fits s)).read)
 
-net : (c : tie.After-kept-net) → Read w32 (of_z w32 c.kept-net.result) (kept_of (kept_of (gross_at c.before.before.before.before.before.before.before.before.before) -ℤ c.before.before.before.before.before.before.before.before.before.args.w.tare))
+net : (c : tie.After-kept-net) → Read w32 (of_z w32 c.kept-net.result) (kept_of (kept_of (gross_at c.before.before.before.before.before.before.before.before.before) -ℤ c.args.w.tare))
 net c =
     let d = c.before in
     let s = d.before.before.before.before.before.before.before.before in
-    be (got c.kept-net.result c.kept-net.type-inv)
-    (c.kept-net.ensures ∙ ap kept_of ((got {w = w64} d.difference.result d.difference.type-inv).read ∙ d.difference.ensures ∙ (λ i. (gross d.before.before).read i -ℤ to_z-of_z (tare_fits s) i)))
+    be (got c.kept-net.result c.kept-net.type_inv)
+    (c.kept-net.ensures ∙ ap kept_of ((got {w = w64} d.difference.result d.difference.type_inv).read ∙ d.difference.ensures ∙ (λ i. (gross d.before.before).read i -ℤ to_z-of_z (tare_fits s) i)))
 
 difference-fine-requires : tie.Need-difference-fine-requires
 difference-fine-requires c κs = search rules
@@ -99,7 +99,7 @@ returns c =
       (divisions d).read,
       (gross g).read,
       (net n).read,
-      c.before.before.is_overloaded-overload.ensures,
+      c.is_overloaded-overload.ensures,
       c.is_stable-stable.ensures,
     )
 

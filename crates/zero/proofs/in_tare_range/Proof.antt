@@ -10,8 +10,8 @@ use mir.Facts.{to_z-of_z, to_z_pos}
 use Rattle.zero.proofs.in_tare_range.Statement.{statement}
 use Rattle.zero.proofs.in_tare_range.Tie as tie
 
-low : (c : tie.After-at_most) → c.at_most.result ≡ le_z (pos 0) c.before.args.divisions
-low c = c.at_most.ensures ∙ ap (le_z (pos 0)) (to_z-of_z c.before.ranges.divisions)
+low : (c : tie.After-at_most) → c.at_most.result ≡ le_z (pos 0) c.args.divisions
+low c = c.at_most.ensures ∙ ap (le_z (pos 0)) (to_z-of_z c.ranges.divisions)
 
 at_most-requires : tie.Need-at_most-requires
 at_most-requires c κs = search rules

@@ -11,8 +11,8 @@ use Rattle.whole.specs.Machine.{wider, fits_of, abs_fits}
 use Rattle.zero.proofs.in_zero_range.Statement.{statement}
 use Rattle.zero.proofs.in_zero_range.Tie as tie
 
-size : (c : tie.After-magnitude) → c.magnitude.result ≡ nat_abs c.before.args.raw
-size c = simp (c.magnitude.ensures, (cast (arg c.before.ranges.raw) (wider c.before.ranges.raw)).read)
+size : (c : tie.After-magnitude) → c.magnitude.result ≡ nat_abs c.args.raw
+size c = simp (c.magnitude.ensures, (cast (arg c.ranges.raw) (wider c.ranges.raw)).read)
 
 overflow_cast-raw : tie.Need-overflow_cast-raw
 overflow_cast-raw c = cast_need (arg c.ranges.raw) (wider c.ranges.raw)
@@ -21,7 +21,7 @@ magnitude-requires : tie.Need-magnitude-requires
 magnitude-requires c κs = search rules
 
 overflow_mul-result : tie.Need-overflow_mul-result
-overflow_mul-result c = fits_of (omega (arith, size c, abs_fits w32 c.before.ranges.raw))
+overflow_mul-result c = fits_of (omega (arith, size c, abs_fits w32 c.ranges.raw))
 
 overflow_cast-result : tie.Need-overflow_cast-result
 overflow_cast-result c = search rules

@@ -23,22 +23,22 @@ minus s = diff_fits {x = pos 0} {y = s.args.x.net} (sfits_lit tt) (net s)
 overflow_cast-net : tie.Need-overflow_cast-net
 overflow_cast-net c = search machine
 
-enum_told : tie.Need-enum_told-1
-enum_told c = search rules
+enum_told-1 : tie.Need-enum_told-1
+enum_told-1 c = search rules
 
 enum_told-in-Loss : tie.Need-enum_told-in-Loss
 enum_told-in-Loss c = search rules
 
 returns-in-Normal : tie.Need-returns-in-Normal
-returns-in-Normal c = (widened (net c.before.before.before.before)).read ∙ simp c.enum_told-1.given.1
+returns-in-Normal c = (widened (net c.before.before.before)).read ∙ simp c.in-Normal.is
 
 returns-in-Loss : tie.Need-returns-in-Loss
 returns-in-Loss c =
-    let s = c.before.before.before.before in
-    (sub none (widened (net s)) (minus s)).read ∙ +ℤ_idl (neg_ℤ s.args.x.net) ∙ simp c.enum_told-in-Loss-1.given.1
+    let s = c.before.before.before in
+    (sub none (widened (net s)) (minus s)).read ∙ +ℤ_idl (neg_ℤ s.args.x.net) ∙ simp c.in-Loss.is
 
 overflow_sub-result : tie.Need-overflow_sub-result
-overflow_sub-result c = let s = c.before.before.before.before in sub_need none (widened (net s)) (minus s)
+overflow_sub-result c = let s = c.before.before.before in sub_need none (widened (net s)) (minus s)
 
 pub compared_spec : {M : Type 1} → statement M
-compared_spec = tie.close (tie.spec overflow_cast-net enum_told enum_told-in-Loss overflow_sub-result returns-in-Normal returns-in-Loss)
+compared_spec = tie.close (tie.spec overflow_cast-net enum_told-1 enum_told-in-Loss overflow_sub-result returns-in-Normal returns-in-Loss)

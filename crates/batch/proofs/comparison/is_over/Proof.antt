@@ -14,10 +14,10 @@ overflow_cast-result-2 : tie.Need-overflow_cast-result-2
 overflow_cast-result-2 c = search rules
 
 overflow_add-result : tie.Need-overflow_add-result
-overflow_add-result c = more_fits c.before.before.args.p.target c.before.before.args.p.over (omega arith) (omega arith)
+overflow_add-result c = more_fits c.args.p.target c.args.p.over (omega arith) (omega arith)
 
 returns : tie.Need-returns
-returns c = λ i. lt_z (more_is c.before.before.args.p.target c.before.before.args.p.over (omega arith) (omega arith) i) (to_z-of_z c.before.before.ranges.v i)
+returns c = λ i. lt_z (more_is c.args.p.target c.args.p.over (omega arith) (omega arith) i) (to_z-of_z c.ranges.v i)
 
 pub is_over_spec : {M : Type 1} → statement M
 is_over_spec = tie.close (tie.spec overflow_cast-result overflow_cast-result-2 overflow_add-result returns)

@@ -14,10 +14,10 @@ overflow_cast-result-2 : tie.Need-overflow_cast-result-2
 overflow_cast-result-2 c = search rules
 
 overflow_sub-result : tie.Need-overflow_sub-result
-overflow_sub-result c = less_fits c.before.before.args.p.target c.before.before.args.p.under (omega arith) (omega arith)
+overflow_sub-result c = less_fits c.args.p.target c.args.p.under (omega arith) (omega arith)
 
 returns : tie.Need-returns
-returns c = λ i. lt_z (to_z-of_z c.before.before.ranges.v i) (less_is c.before.before.args.p.target c.before.before.args.p.under (omega arith) (omega arith) i)
+returns c = λ i. lt_z (to_z-of_z c.ranges.v i) (less_is c.args.p.target c.args.p.under (omega arith) (omega arith) i)
 
 pub is_under_spec : {M : Type 1} → statement M
 is_under_spec = tie.close (tie.spec overflow_cast-result overflow_cast-result-2 overflow_sub-result returns)

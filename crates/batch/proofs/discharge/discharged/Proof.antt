@@ -11,10 +11,10 @@ enum_known-stage : tie.Need-enum_known-stage
 enum_known-stage c = search rules
 
 emptied-requires : tie.Need-emptied-requires
-emptied-requires c κs = emptying_left c.before.args.q.stage-1 c.in_default.keys2 c.before.requires
+emptied-requires c κs = emptying_left c.args.q.stage c.in_default.in_default-own.keys2 c.requires
 
 returns-in_default : tie.Need-returns-in_default
-returns-in_default c = λ s v. simp (to_z-of_z c.before.before.ranges.gross) at (c.emptied.ensures s v)
+returns-in_default c = λ s v. simp (to_z-of_z c.ranges.gross) at (c.emptied.ensures s v)
 
 wait-requires : tie.Need-wait-requires
 wait-requires c κs = search rules
@@ -28,12 +28,12 @@ to-requires c κs = search rules
 returns-in-Still : tie.Need-returns-in-Still
 unfolding move_of
 returns-in-Still c = λ s v.
-    let w = c.before.before.before.before in
-    let g = w.before.before.stage-1.given.1 in
-    c.to.ensures ∙ delay_to _ _ _ _ refl _ g refl refl refl _ (simp (sym w.wait.ensures ∙ c.before.before.u-1.given.1))
+    let w = c.before.before in
+    let g = w.in-DischargeStart.is in
+    c.to.ensures ∙ delay_to _ _ _ _ refl _ g refl refl refl _ (simp (sym w.wait.ensures ∙ c.in-Still.is))
 
-enum_told : tie.Need-enum_told-1
-enum_told c = search rules
+enum_told-1 : tie.Need-enum_told-1
+enum_told-1 c = search rules
 
 to-requires-in-Over : tie.Need-to-requires-in-Over
 to-requires-in-Over c κs = search rules
@@ -41,9 +41,9 @@ to-requires-in-Over c κs = search rules
 returns-in-Over : tie.Need-returns-in-Over
 unfolding move_of
 returns-in-Over c = λ s v.
-    let w = c.before.before.before in
-    let g = w.before.before.stage-1.given.1 in
-    c.to-in-Over.ensures ∙ delay_to _ _ _ _ refl _ g refl refl refl _ (simp (sym w.wait.ensures ∙ c.before.enum_told-1.given.1))
+    let w = c.before.before in
+    let g = w.in-DischargeStart.is in
+    c.to-in-Over.ensures ∙ delay_to _ _ _ _ refl _ g refl refl refl _ (simp (sym w.wait.ensures ∙ c.in-Over.is))
 
 pub discharged_spec : {M : Type 1} → statement M
 discharged_spec =
@@ -56,6 +56,6 @@ discharged_spec =
     enum_known-u
     to-requires
     returns-in-Still
-    enum_told
+    enum_told-1
     to-requires-in-Over
     returns-in-Over)

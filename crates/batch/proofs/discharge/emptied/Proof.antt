@@ -21,19 +21,19 @@ start k = k.before.before.before.before
 moves : (k : tie.After-struct_known-3-1) (s : Bool) (v : ℤ) (g : Stage) →
     let a = (start k).args in
     let f = facts_at a.p false s v a.gross in
-    move_of a.b a.p a.q.stage-1 f ≡ To g
+    move_of a.b a.p a.q.stage f ≡ To g
     → ◌≡◌ {A = Advanced} (record { sequence = record { stage = g; clock = a.q.clock + 1; error = a.q.error; judgement = a.q.judgement }; finished = false })
     (advance_of a.b a.p a.q f)
-moves k s v g m = empty-to _ _ _ _ refl (start k).requires k.before.if-b-q.false g m
+moves k s v g m = empty-to _ _ _ _ refl (start k).requires k.if-b-q.false g m
 
 fail-requires : tie.Need-fail-requires
 fail-requires c κs = search rules
 
 returns-then-b-q : tie.Need-returns-then-b-q
-returns-then-b-q c = λ s v. c.fail.ensures ∙ empty-slow _ _ _ _ refl c.before.before.before.before.requires c.before.if-b-q.true
+returns-then-b-q c = λ s v. c.fail.ensures ∙ empty-slow _ _ _ _ refl c.requires c.if-b-q.true
 
 overflow_add-clock : tie.Need-overflow_add-clock
-overflow_add-clock c = record { fits = omega (arith, c.before.if-b-q.false, c.before.before.before.before.well-formed.0.1.1.1.1.1.1.1.1.1.0) }
+overflow_add-clock c = record { fits = omega (arith, c.if-b-q.false, c.well-formed.0.1.1.1.1.1.1.1.1.1.0) }
 
 enum_known-stage : tie.Need-enum_known-stage
 enum_known-stage c = search rules
@@ -49,8 +49,8 @@ unfolding move_of
 returns-then-is_at_near c = λ s v.
     let m = c.before.before.before in
     let k = m.before in
-    let e = simp (to_z-of_z (start k).ranges.gross) at c.before.before.is_at_near.ensures in
-    c.to.ensures ∙ moves k s v _ (simp (c.before.if-is_at_near.true, ← e, open_left (start k).args.q.stage-1 m.in_default.keys2 (start k).requires))
+    let e = simp (to_z-of_z (start k).ranges.gross) at c.is_at_near.ensures in
+    c.to.ensures ∙ moves k s v _ (simp (c.if-is_at_near.true, ← e, open_left (start k).args.q.stage m.in_default.in_default-own.keys2 (start k).requires))
 
 to-requires-in_default : tie.Need-to-requires-in_default
 to-requires-in_default c κs = search rules
@@ -60,8 +60,8 @@ unfolding move_of
 returns-in_default c = λ s v.
     let m = c.before.before.before in
     let k = m.before in
-    let e = simp (to_z-of_z (start k).ranges.gross) at c.before.before.is_at_near.ensures in
-    c.to-in_default.ensures ∙ moves k s v _ (simp (c.before.if-is_at_near.false, ← e, open_left (start k).args.q.stage-1 m.in_default.keys2 (start k).requires))
+    let e = simp (to_z-of_z (start k).ranges.gross) at c.is_at_near.ensures in
+    c.to-in_default.ensures ∙ moves k s v _ (simp (c.if-is_at_near.false, ← e, open_left (start k).args.q.stage m.in_default.in_default-own.keys2 (start k).requires))
 
 wait-requires : tie.Need-wait-requires
 wait-requires c κs = search rules
@@ -75,12 +75,12 @@ to-requires-in-Still c κs = search rules
 returns-in-Still : tie.Need-returns-in-Still
 unfolding move_of
 returns-in-Still c = λ s v.
-    let w = c.before.before.before.before in
-    let g = w.before.before in
-    c.to-in-Still.ensures ∙ moves g.before.before s v _ (simp (sym w.wait.ensures ∙ c.before.before.u-1.given.1, g.stage-1.given.1))
+    let w = c.before.before in
+    let g = w.before in
+    c.to-in-Still.ensures ∙ moves g.before.before s v _ (simp (sym w.wait.ensures ∙ c.in-Still.is, g.in-DischargeEnd.is))
 
-enum_told : tie.Need-enum_told-1
-enum_told c = search rules
+enum_told-1 : tie.Need-enum_told-1
+enum_told-1 c = search rules
 
 to-requires-in-Over : tie.Need-to-requires-in-Over
 to-requires-in-Over c κs = search rules
@@ -88,10 +88,10 @@ to-requires-in-Over c κs = search rules
 returns-in-Over : tie.Need-returns-in-Over
 unfolding move_of
 returns-in-Over c = λ s v.
-    let w = c.before.before.before in
-    let g = w.before.before in
+    let w = c.before.before in
+    let g = w.before in
     let k = g.before.before in
-    c.to-in-Over.ensures ∙ empty-over _ _ _ _ refl (start k).requires k.before.if-b-q.false (simp (sym w.wait.ensures ∙ c.before.enum_told-1.given.1, g.stage-1.given.1))
+    c.to-in-Over.ensures ∙ empty-over _ _ _ _ refl (start k).requires k.if-b-q.false (simp (sym w.wait.ensures ∙ c.in-Over.is, g.in-DischargeEnd.is))
 
 pub emptied_spec : {M : Type 1} → statement M
 emptied_spec =
@@ -110,6 +110,6 @@ emptied_spec =
     enum_known-u
     to-requires-in-Still
     returns-in-Still
-    enum_told
+    enum_told-1
     to-requires-in-Over
     returns-in-Over)

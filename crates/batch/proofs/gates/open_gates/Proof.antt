@@ -4,8 +4,8 @@ use Rattle.outline.specs.Stages.{gates_of}
 use Rattle.batch.proofs.gates.open_gates.Statement.{statement}
 use Rattle.batch.proofs.gates.open_gates.Tie as tie
 
-enum_told : tie.Need-enum_told-1
-enum_told c = search rules
+enum_told-1 : tie.Need-enum_told-1
+enum_told-1 c = search rules
 
 gates-requires : tie.Need-gates-requires
 gates-requires c κs = search rules
@@ -84,61 +84,61 @@ gates-requires-in-DischargeEnd c κs = search rules
 
 returns-in-Idle : tie.Need-returns-in-Idle
 unfolding gates_of
-returns-in-Idle c = simp (c.gates.ensures, c.before.enum_told-1.given.1)
+returns-in-Idle c = simp (c.gates.ensures, c.in-Idle.is)
 
 returns-in-StartDelay : tie.Need-returns-in-StartDelay
 unfolding gates_of
-returns-in-StartDelay c = simp (c.gates-in-StartDelay.ensures, c.before.enum_told-in-StartDelay-1.given.1)
+returns-in-StartDelay c = simp (c.gates-in-StartDelay.ensures, c.in-StartDelay.is)
 
 returns-in-LargeDisable : tie.Need-returns-in-LargeDisable
 unfolding gates_of
-returns-in-LargeDisable c = simp (c.gates-in-LargeDisable.ensures, c.before.enum_told-in-LargeDisable-1.given.1)
+returns-in-LargeDisable c = simp (c.gates-in-LargeDisable.ensures, c.in-LargeDisable.is)
 
 returns-in-LargeFlow : tie.Need-returns-in-LargeFlow
 unfolding gates_of
-returns-in-LargeFlow c = simp (c.gates-in-LargeFlow.ensures, c.before.enum_told-in-LargeFlow-1.given.1)
+returns-in-LargeFlow c = simp (c.gates-in-LargeFlow.ensures, c.in-LargeFlow.is)
 
 returns-in-MediumDisable : tie.Need-returns-in-MediumDisable
 unfolding gates_of
-returns-in-MediumDisable c = simp (c.gates-in-MediumDisable.ensures, c.before.enum_told-in-MediumDisable-1.given.1)
+returns-in-MediumDisable c = simp (c.gates-in-MediumDisable.ensures, c.in-MediumDisable.is)
 
 returns-in-MediumFlow : tie.Need-returns-in-MediumFlow
 unfolding gates_of
-returns-in-MediumFlow c = simp (c.gates-in-MediumFlow.ensures, c.before.enum_told-in-MediumFlow-1.given.1)
+returns-in-MediumFlow c = simp (c.gates-in-MediumFlow.ensures, c.in-MediumFlow.is)
 
 returns-in-SmallDisable : tie.Need-returns-in-SmallDisable
 unfolding gates_of
-returns-in-SmallDisable c = simp (c.gates-in-SmallDisable.ensures, c.before.enum_told-in-SmallDisable-1.given.1)
+returns-in-SmallDisable c = simp (c.gates-in-SmallDisable.ensures, c.in-SmallDisable.is)
 
 returns-in-SmallFlow : tie.Need-returns-in-SmallFlow
 unfolding gates_of
-returns-in-SmallFlow c = simp (c.gates-in-SmallFlow.ensures, c.before.enum_told-in-SmallFlow-1.given.1)
+returns-in-SmallFlow c = simp (c.gates-in-SmallFlow.ensures, c.in-SmallFlow.is)
 
 returns-in-JudgeDelay : tie.Need-returns-in-JudgeDelay
 unfolding gates_of
-returns-in-JudgeDelay c = simp (c.gates-in-JudgeDelay.ensures, c.before.enum_told-in-JudgeDelay-1.given.1)
+returns-in-JudgeDelay c = simp (c.gates-in-JudgeDelay.ensures, c.in-JudgeDelay.is)
 
 returns-in-JudgeWait : tie.Need-returns-in-JudgeWait
 unfolding gates_of
-returns-in-JudgeWait c = simp (c.gates-in-JudgeWait.ensures, c.before.enum_told-in-JudgeWait-1.given.1)
+returns-in-JudgeWait c = simp (c.gates-in-JudgeWait.ensures, c.in-JudgeWait.is)
 
 returns-in-DischargeStart : tie.Need-returns-in-DischargeStart
 unfolding gates_of
-returns-in-DischargeStart c = simp (c.gates-in-DischargeStart.ensures, c.before.enum_told-in-DischargeStart-1.given.1)
+returns-in-DischargeStart c = simp (c.gates-in-DischargeStart.ensures, c.in-DischargeStart.is)
 
 returns-in-Discharge : tie.Need-returns-in-Discharge
 unfolding gates_of
-returns-in-Discharge c = simp (c.gates-in-Discharge.ensures, c.before.enum_told-in-Discharge-1.given.1)
+returns-in-Discharge c = simp (c.gates-in-Discharge.ensures, c.in-Discharge.is)
 
 returns-in-DischargeEnd : tie.Need-returns-in-DischargeEnd
 unfolding gates_of
-returns-in-DischargeEnd c = simp (c.gates-in-DischargeEnd.ensures, c.before.enum_told-in-DischargeEnd-1.given.1)
+returns-in-DischargeEnd c = simp (c.gates-in-DischargeEnd.ensures, c.in-DischargeEnd.is)
 
 pub open_gates_spec : {M : Type 1} → statement M
 open_gates_spec =
     tie.close
     (tie.spec
-    enum_told
+    enum_told-1
     gates-requires
     enum_told-in-StartDelay
     gates-requires-in-StartDelay

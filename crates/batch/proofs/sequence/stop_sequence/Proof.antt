@@ -9,7 +9,7 @@ is_idle-requires c κs = search rules
 
 returns-then-is_idle : tie.Need-returns-then-is_idle
 unfolding stop_sequence
-returns-then-is_idle c = simp (c.if-is_idle.true, ← c.before.is_idle.ensures)
+returns-then-is_idle c = simp (c.if-is_idle.true, ← c.is_idle.ensures)
 
 stop_error-requires : tie.Need-stop_error-requires
 stop_error-requires c κs = search rules
@@ -21,7 +21,7 @@ returns : tie.Need-returns
 unfolding stop_sequence
 returns c =
     let e = c.before in
-    simp (c.failed.ensures, e.stop_error_lem.ensures, e.before.if-is_idle.false, ← e.before.before.is_idle.ensures)
+    simp (c.failed.ensures, e.stop_error_lem.ensures, e.if-is_idle.false, ← e.is_idle.ensures)
 
 pub stop_sequence_spec : {M : Type 1} → statement M
 stop_sequence_spec = tie.close (tie.spec is_idle-requires returns-then-is_idle stop_error-requires failed-requires returns)

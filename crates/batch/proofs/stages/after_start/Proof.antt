@@ -11,7 +11,7 @@ fail-requires c κs = search rules
 
 returns-then-p-eq0 : tie.Need-returns-then-p-eq0
 unfolding after_start land_of
-returns-then-p-eq0 c = λ s x. simp (c.fail.ensures, eq-eqb _ _ c.before.if-p-eq0.true)
+returns-then-p-eq0 c = λ s x. simp (c.fail.ensures, eq-eqb _ _ c.if-p-eq0.true)
 
 is_reached-requires : tie.Need-is_reached-requires
 is_reached-requires c κs = search rules
@@ -22,8 +22,8 @@ fail-requires-then-is_reached c κs = search rules
 returns-then-is_reached : tie.Need-returns-then-is_reached
 unfolding after_start land_of
 returns-then-is_reached c = λ s x.
-    let e = simp (to_z-of_z c.before.before.before.before.before.ranges.v) at c.before.before.is_reached.ensures in
-    simp (c.fail-then-is_reached.ensures, c.before.if-is_reached.true, ← e, ne_eqb _ _ c.before.before.before.if-p-eq0.false)
+    let e = simp (to_z-of_z c.ranges.v) at c.is_reached.ensures in
+    simp (c.fail-then-is_reached.ensures, c.if-is_reached.true, ← e, ne_eqb _ _ c.if-p-eq0.false)
 
 first_flow-requires : tie.Need-first_flow-requires
 first_flow-requires c κs = search rules
@@ -35,8 +35,8 @@ returns : tie.Need-returns
 unfolding after_start land_of
 returns c = λ s x.
     let a = c.before.before.before.before.before.before in
-    let e = simp (to_z-of_z a.ranges.v) at c.before.before.before.is_reached.ensures in
-    simp (c.to.ensures, c.before.first_flow_lem.ensures, c.before.before.if-is_reached.false, ← e, ne_eqb _ _ c.before.before.before.before.if-p-eq0.false, a.requires)
+    let e = simp (to_z-of_z a.ranges.v) at c.is_reached.ensures in
+    simp (c.to.ensures, c.first_flow_lem.ensures, c.if-is_reached.false, ← e, ne_eqb _ _ c.if-p-eq0.false, a.requires)
 
 pub after_start_spec : {M : Type 1} → statement M
 after_start_spec =

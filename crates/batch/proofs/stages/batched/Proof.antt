@@ -11,10 +11,10 @@ enum_known-stage : tie.Need-enum_known-stage
 enum_known-stage c = search rules
 
 flowed-requires : tie.Need-flowed-requires
-flowed-requires c κs = flow_left c.before.args.q.stage-1 c.in_default.keys2 c.before.requires.0 c.before.requires.1
+flowed-requires c κs = flow_left c.args.q.stage c.in_default.in_default-own.keys2 c.requires.0 c.requires.1
 
 returns-in_default : tie.Need-returns-in_default
-returns-in_default c = λ x. simp (to_z-of_z c.before.before.ranges.v) at (c.flowed.ensures x)
+returns-in_default c = λ x. simp (to_z-of_z c.ranges.v) at (c.flowed.ensures x)
 
 wait-requires : tie.Need-wait-requires
 wait-requires c κs = search rules
@@ -28,23 +28,23 @@ to-requires c κs = search rules
 returns-in-Still : tie.Need-returns-in-Still
 unfolding move_of
 returns-in-Still c = λ x.
-    let w = c.before.before.before.before in
-    let g = w.before.before.stage-1.given.1 in
-    c.to.ensures ∙ delay_to _ _ _ _ refl _ g refl refl refl _ (simp (sym w.wait.ensures ∙ c.before.before.u-1.given.1))
+    let w = c.before.before in
+    let g = w.in-StartDelay.is in
+    c.to.ensures ∙ delay_to _ _ _ _ refl _ g refl refl refl _ (simp (sym w.wait.ensures ∙ c.in-Still.is))
 
-enum_told : tie.Need-enum_told-1
-enum_told c = search rules
+enum_told-1 : tie.Need-enum_told-1
+enum_told-1 c = search rules
 
 after_start-requires : tie.Need-after_start-requires
-after_start-requires c κs = simp c.before.before.before.before.stage-1.given.1
+after_start-requires c κs = simp c.in-StartDelay.is
 
 returns-in-Over : tie.Need-returns-in-Over
 returns-in-Over c = λ x.
-    let w = c.before.before.before in
-    let g = w.before.before.stage-1.given.1 in
-    let a = w.before.before.before.before in
+    let w = c.before.before in
+    let g = w.in-StartDelay.is in
+    let a = w.before.before in
     let e = simp (to_z-of_z a.ranges.v) at (c.after_start_lem.ensures a.args.stable x) in
-    start_over _ _ _ _ refl _ g (sym w.wait.ensures ∙ c.before.enum_told-1.given.1) _ e
+    start_over _ _ _ _ refl _ g (sym w.wait.ensures ∙ c.in-Over.is) _ e
 
 pub batched_spec : {M : Type 1} → statement M
 batched_spec =
@@ -57,6 +57,6 @@ batched_spec =
     enum_known-u
     to-requires
     returns-in-Still
-    enum_told
+    enum_told-1
     after_start-requires
     returns-in-Over)

@@ -12,11 +12,11 @@ after_large-requires c κs = search rules
 
 returns-then-has_no_large : tie.Need-returns-then-has_no_large
 unfolding first_flow
-returns-then-has_no_large c = simp (c.after_large_lem.ensures, c.before.if-has_no_large.true, ← c.before.before.has_no_large.ensures)
+returns-then-has_no_large c = simp (c.after_large_lem.ensures, c.if-has_no_large.true, ← c.has_no_large.ensures)
 
 returns-else-has_no_large : tie.Need-returns-else-has_no_large
 unfolding first_flow
-returns-else-has_no_large c = simp (c.if-has_no_large.false, ← c.before.has_no_large.ensures)
+returns-else-has_no_large c = simp (c.if-has_no_large.false, ← c.has_no_large.ensures)
 
 pub first_flow_spec : {M : Type 1} → statement M
 first_flow_spec = tie.close (tie.spec has_no_large-requires after_large-requires returns-then-has_no_large returns-else-has_no_large)

@@ -21,16 +21,16 @@ start k = k.before.before.before.before
 moves : (k : tie.After-struct_known-3-1) (x : ℤ) (g : Stage) →
     let a = (start k).args in
     let f = facts_at a.p false a.stable a.v x in
-    move_of a.b a.p a.q.stage-1 f ≡ To g
+    move_of a.b a.p a.q.stage f ≡ To g
     → ◌≡◌ {A = Advanced} (record { sequence = record { stage = g; clock = a.q.clock + 1; error = a.q.error; judgement = a.q.judgement }; finished = false })
     (advance_of a.b a.p a.q f)
-moves k x g m = flow-to _ _ _ _ refl (start k).requires k.before.if-b-q.false g m
+moves k x g m = flow-to _ _ _ _ refl (start k).requires k.if-b-q.false g m
 
 fail-requires : tie.Need-fail-requires
 fail-requires c κs = search rules
 
 returns-then-b-q : tie.Need-returns-then-b-q
-returns-then-b-q c = λ x. c.fail.ensures ∙ flow-late _ _ _ _ refl c.before.before.before.before.requires c.before.if-b-q.true
+returns-then-b-q c = λ x. c.fail.ensures ∙ flow-late _ _ _ _ refl c.requires c.if-b-q.true
 
 overflow_add-clock : tie.Need-overflow_add-clock
 overflow_add-clock c = search rules
@@ -49,17 +49,17 @@ to-requires c κs = search rules
 
 returns-in-Still : tie.Need-returns-in-Still
 unfolding move_of
-returns-in-Still c = λ x. c.to.ensures ∙ moves c.before.before.before.before.before.before.before.before x _ (simp (sym c.before.before.before.before.wait.ensures ∙ c.before.before.u-1.given.1, c.before.before.before.before.before.before.stage-1.given.1))
+returns-in-Still c = λ x. c.to.ensures ∙ moves c.before.before.before.before x _ (simp (sym c.wait.ensures ∙ c.in-Still.is, c.in-LargeDisable.is))
 
-enum_told : tie.Need-enum_told-1
-enum_told c = search rules
+enum_told-1 : tie.Need-enum_told-1
+enum_told-1 c = search rules
 
 to-requires-in-Over : tie.Need-to-requires-in-Over
 to-requires-in-Over c κs = search rules
 
 returns-in-Over : tie.Need-returns-in-Over
 unfolding move_of
-returns-in-Over c = λ x. c.to-in-Over.ensures ∙ moves c.before.before.before.before.before.before.before x _ (simp (sym c.before.before.before.wait.ensures ∙ c.before.enum_told-1.given.1, c.before.before.before.before.before.stage-1.given.1))
+returns-in-Over c = λ x. c.to-in-Over.ensures ∙ moves c.before.before.before.before x _ (simp (sym c.wait.ensures ∙ c.in-Over.is, c.in-LargeDisable.is))
 
 enum_told-in-LargeFlow : tie.Need-enum_told-in-LargeFlow
 enum_told-in-LargeFlow c = search rules
@@ -76,9 +76,9 @@ to-requires-then-is_reached c κs = search rules
 returns-then-is_reached : tie.Need-returns-then-is_reached
 unfolding move_of
 returns-then-is_reached c = λ x.
-    let k = c.before.before.before.before.before.before in
-    let e = simp (to_z-of_z (start k).ranges.v) at c.before.before.before.is_reached.ensures in
-    c.to-then-is_reached.ensures ∙ moves k x _ (simp (c.before.after_large_lem.ensures, c.before.before.if-is_reached.true, ← e, c.before.before.before.before.enum_told-in-LargeFlow-1.given.1))
+    let k = c.before.before.before.before.before in
+    let e = simp (to_z-of_z (start k).ranges.v) at c.is_reached.ensures in
+    c.to-then-is_reached.ensures ∙ moves k x _ (simp (c.after_large_lem.ensures, c.if-is_reached.true, ← e, c.in-LargeFlow.is))
 
 to-requires-in-LargeFlow : tie.Need-to-requires-in-LargeFlow
 to-requires-in-LargeFlow c κs = search rules
@@ -86,9 +86,9 @@ to-requires-in-LargeFlow c κs = search rules
 returns-in-LargeFlow : tie.Need-returns-in-LargeFlow
 unfolding move_of
 returns-in-LargeFlow c = λ x.
-    let k = c.before.before.before.before.before in
-    let e = simp (to_z-of_z (start k).ranges.v) at c.before.before.is_reached.ensures in
-    c.to-in-LargeFlow.ensures ∙ moves k x _ (simp (c.before.if-is_reached.false, ← e, c.before.before.before.enum_told-in-LargeFlow-1.given.1))
+    let k = c.before.before.before.before in
+    let e = simp (to_z-of_z (start k).ranges.v) at c.is_reached.ensures in
+    c.to-in-LargeFlow.ensures ∙ moves k x _ (simp (c.if-is_reached.false, ← e, c.in-LargeFlow.is))
 
 enum_known-stage-in-MediumDisable-1 : tie.Need-enum_known-stage-in-MediumDisable-1
 enum_known-stage-in-MediumDisable-1 c = search rules
@@ -104,7 +104,7 @@ to-requires-in-Still-wait c κs = search rules
 
 returns-in-Still-wait : tie.Need-returns-in-Still-wait
 unfolding move_of
-returns-in-Still-wait c = λ x. c.to-in-Still-wait.ensures ∙ moves c.before.before.before.before.before.before.before.before x _ (simp (sym c.before.before.before.before.wait-in-MediumDisable.ensures ∙ c.before.before.u-in-Still-wait-2-1.given.1, c.before.before.before.before.before.before.stage-in-MediumDisable-1.given.1))
+returns-in-Still-wait c = λ x. c.to-in-Still-wait.ensures ∙ moves c.before.before.before.before x _ (simp (sym c.wait-in-MediumDisable.ensures ∙ c.in-Still-wait.is, c.in-MediumDisable.is))
 
 enum_told-in-Over-wait : tie.Need-enum_told-in-Over-wait
 enum_told-in-Over-wait c = search rules
@@ -114,7 +114,7 @@ to-requires-in-Over-wait c κs = search rules
 
 returns-in-Over-wait : tie.Need-returns-in-Over-wait
 unfolding move_of
-returns-in-Over-wait c = λ x. c.to-in-Over-wait.ensures ∙ moves c.before.before.before.before.before.before.before x _ (simp (sym c.before.before.before.wait-in-MediumDisable.ensures ∙ c.before.enum_told-in-Over-wait-1.given.1, c.before.before.before.before.before.stage-in-MediumDisable-1.given.1))
+returns-in-Over-wait c = λ x. c.to-in-Over-wait.ensures ∙ moves c.before.before.before.before x _ (simp (sym c.wait-in-MediumDisable.ensures ∙ c.in-Over-wait.is, c.in-MediumDisable.is))
 
 enum_told-in-MediumFlow : tie.Need-enum_told-in-MediumFlow
 enum_told-in-MediumFlow c = search rules
@@ -128,9 +128,9 @@ to-requires-then-is_reached-2 c κs = search rules
 returns-then-is_reached-2 : tie.Need-returns-then-is_reached-2
 unfolding move_of
 returns-then-is_reached-2 c = λ x.
-    let k = c.before.before.before.before.before in
-    let e = simp (to_z-of_z (start k).ranges.v) at c.before.before.is_reached-in-MediumFlow.ensures in
-    c.to-then-is_reached-2.ensures ∙ moves k x _ (simp (c.before.if-is_reached-2.true, ← e, c.before.before.before.enum_told-in-MediumFlow-1.given.1))
+    let k = c.before.before.before.before in
+    let e = simp (to_z-of_z (start k).ranges.v) at c.is_reached-in-MediumFlow.ensures in
+    c.to-then-is_reached-2.ensures ∙ moves k x _ (simp (c.if-is_reached-2.true, ← e, c.in-MediumFlow.is))
 
 to-requires-in-MediumFlow : tie.Need-to-requires-in-MediumFlow
 to-requires-in-MediumFlow c κs = search rules
@@ -138,9 +138,9 @@ to-requires-in-MediumFlow c κs = search rules
 returns-in-MediumFlow : tie.Need-returns-in-MediumFlow
 unfolding move_of
 returns-in-MediumFlow c = λ x.
-    let k = c.before.before.before.before.before in
-    let e = simp (to_z-of_z (start k).ranges.v) at c.before.before.is_reached-in-MediumFlow.ensures in
-    c.to-in-MediumFlow.ensures ∙ moves k x _ (simp (c.before.if-is_reached-2.false, ← e, c.before.before.before.enum_told-in-MediumFlow-1.given.1))
+    let k = c.before.before.before.before in
+    let e = simp (to_z-of_z (start k).ranges.v) at c.is_reached-in-MediumFlow.ensures in
+    c.to-in-MediumFlow.ensures ∙ moves k x _ (simp (c.if-is_reached-2.false, ← e, c.in-MediumFlow.is))
 
 enum_known-stage-in-SmallDisable-1 : tie.Need-enum_known-stage-in-SmallDisable-1
 enum_known-stage-in-SmallDisable-1 c = search rules
@@ -156,7 +156,7 @@ to-requires-in-Still-wait-2 c κs = search rules
 
 returns-in-Still-wait-2 : tie.Need-returns-in-Still-wait-2
 unfolding move_of
-returns-in-Still-wait-2 c = λ x. c.to-in-Still-wait-2.ensures ∙ moves c.before.before.before.before.before.before.before.before x _ (simp (sym c.before.before.before.before.wait-in-SmallDisable.ensures ∙ c.before.before.u-in-Still-wait-3-1.given.1, c.before.before.before.before.before.before.stage-in-SmallDisable-1.given.1))
+returns-in-Still-wait-2 c = λ x. c.to-in-Still-wait-2.ensures ∙ moves c.before.before.before.before x _ (simp (sym c.wait-in-SmallDisable.ensures ∙ c.in-Still-wait-2.is, c.in-SmallDisable.is))
 
 enum_told-in-Over-wait-2 : tie.Need-enum_told-in-Over-wait-2
 enum_told-in-Over-wait-2 c = search rules
@@ -166,7 +166,7 @@ to-requires-in-Over-wait-2 c κs = search rules
 
 returns-in-Over-wait-2 : tie.Need-returns-in-Over-wait-2
 unfolding move_of
-returns-in-Over-wait-2 c = λ x. c.to-in-Over-wait-2.ensures ∙ moves c.before.before.before.before.before.before.before x _ (simp (sym c.before.before.before.wait-in-SmallDisable.ensures ∙ c.before.enum_told-in-Over-wait-2-1.given.1, c.before.before.before.before.before.stage-in-SmallDisable-1.given.1))
+returns-in-Over-wait-2 c = λ x. c.to-in-Over-wait-2.ensures ∙ moves c.before.before.before.before x _ (simp (sym c.wait-in-SmallDisable.ensures ∙ c.in-Over-wait-2.is, c.in-SmallDisable.is))
 
 enum_told-in-SmallFlow : tie.Need-enum_told-in-SmallFlow
 enum_told-in-SmallFlow c = search rules
@@ -180,9 +180,9 @@ to-requires-then-is_reached-3 c κs = search rules
 returns-then-is_reached-3 : tie.Need-returns-then-is_reached-3
 unfolding move_of
 returns-then-is_reached-3 c = λ x.
-    let k = c.before.before.before.before.before in
-    let e = simp (to_z-of_z (start k).ranges.v) at c.before.before.is_reached-in-SmallFlow.ensures in
-    c.to-then-is_reached-3.ensures ∙ moves k x _ (simp (c.before.if-is_reached-3.true, ← e, c.before.before.before.enum_told-in-SmallFlow-1.given.1))
+    let k = c.before.before.before.before in
+    let e = simp (to_z-of_z (start k).ranges.v) at c.is_reached-in-SmallFlow.ensures in
+    c.to-then-is_reached-3.ensures ∙ moves k x _ (simp (c.if-is_reached-3.true, ← e, c.in-SmallFlow.is))
 
 to-requires-in-SmallFlow : tie.Need-to-requires-in-SmallFlow
 to-requires-in-SmallFlow c κs = search rules
@@ -190,9 +190,9 @@ to-requires-in-SmallFlow c κs = search rules
 returns-in-SmallFlow : tie.Need-returns-in-SmallFlow
 unfolding move_of
 returns-in-SmallFlow c = λ x.
-    let k = c.before.before.before.before.before in
-    let e = simp (to_z-of_z (start k).ranges.v) at c.before.before.is_reached-in-SmallFlow.ensures in
-    c.to-in-SmallFlow.ensures ∙ moves k x _ (simp (c.before.if-is_reached-3.false, ← e, c.before.before.before.enum_told-in-SmallFlow-1.given.1))
+    let k = c.before.before.before.before in
+    let e = simp (to_z-of_z (start k).ranges.v) at c.is_reached-in-SmallFlow.ensures in
+    c.to-in-SmallFlow.ensures ∙ moves k x _ (simp (c.if-is_reached-3.false, ← e, c.in-SmallFlow.is))
 
 enum_known-stage-in-JudgeDelay-1 : tie.Need-enum_known-stage-in-JudgeDelay-1
 enum_known-stage-in-JudgeDelay-1 c = search rules
@@ -208,7 +208,7 @@ to-requires-in-Still-wait-3 c κs = search rules
 
 returns-in-Still-wait-3 : tie.Need-returns-in-Still-wait-3
 unfolding move_of
-returns-in-Still-wait-3 c = λ x. c.to-in-Still-wait-3.ensures ∙ moves c.before.before.before.before.before.before.before.before x _ (simp (sym c.before.before.before.before.wait-in-JudgeDelay.ensures ∙ c.before.before.u-in-Still-wait-4-1.given.1, c.before.before.before.before.before.before.stage-in-JudgeDelay-1.given.1))
+returns-in-Still-wait-3 c = λ x. c.to-in-Still-wait-3.ensures ∙ moves c.before.before.before.before x _ (simp (sym c.wait-in-JudgeDelay.ensures ∙ c.in-Still-wait-3.is, c.in-JudgeDelay.is))
 
 enum_told-in-Over-wait-3 : tie.Need-enum_told-in-Over-wait-3
 enum_told-in-Over-wait-3 c = search rules
@@ -218,7 +218,7 @@ to-requires-in-Over-wait-3 c κs = search rules
 
 returns-in-Over-wait-3 : tie.Need-returns-in-Over-wait-3
 unfolding move_of
-returns-in-Over-wait-3 c = λ x. c.to-in-Over-wait-3.ensures ∙ moves c.before.before.before.before.before.before.before x _ (simp (sym c.before.before.before.wait-in-JudgeDelay.ensures ∙ c.before.enum_told-in-Over-wait-3-1.given.1, c.before.before.before.before.before.stage-in-JudgeDelay-1.given.1))
+returns-in-Over-wait-3 c = λ x. c.to-in-Over-wait-3.ensures ∙ moves c.before.before.before.before x _ (simp (sym c.wait-in-JudgeDelay.ensures ∙ c.in-Over-wait-3.is, c.in-JudgeDelay.is))
 
 enum_told-in-JudgeWait : tie.Need-enum_told-in-JudgeWait
 enum_told-in-JudgeWait c = search rules
@@ -232,10 +232,10 @@ finish-requires c κs = search rules
 returns-then-stable : tie.Need-returns-then-stable
 unfolding move_of land_of
 returns-then-stable c = λ x.
-    let k = c.before.before.before.before.before in
+    let k = c.before.before.before.before in
     let a = start k in
-    let j = simp (to_z-of_z a.fits.v) at (c.before.judge.ensures a.args.stable x) in
-    (simp (c.finish.ensures, j, c.before.before.if-stable.true, c.before.before.before.enum_told-in-JudgeWait-1.given.1)) ∙ flow-on _ _ _ _ refl a.pre k.before.if-b-q.false
+    let j = simp (to_z-of_z a.fits.v) at (c.judge.ensures a.args.stable x) in
+    (simp (c.finish.ensures, j, c.if-stable.true, c.in-JudgeWait.is)) ∙ flow-on _ _ _ _ refl a.pre k.if-b-q.false
 
 to-requires-in-JudgeWait : tie.Need-to-requires-in-JudgeWait
 to-requires-in-JudgeWait c κs = search rules
@@ -243,10 +243,10 @@ to-requires-in-JudgeWait c κs = search rules
 returns-in-JudgeWait : tie.Need-returns-in-JudgeWait
 unfolding move_of
 returns-in-JudgeWait c = λ x.
-    c.to-in-JudgeWait.ensures ∙ moves c.before.before.before.before x _ (simp (c.before.if-stable.false, c.before.before.enum_told-in-JudgeWait-1.given.1))
+    c.to-in-JudgeWait.ensures ∙ moves c.before.before.before x _ (simp (c.if-stable.false, c.in-JudgeWait.is))
 
 returns-in_default : tie.Need-returns-in_default
-returns-in_default c = none_left (start c.before).args.q.stage-1 c.in_default.keys9 (start c.before).requires
+returns-in_default c = none_left (start c.before).args.q.stage c.in_default.in_default-own.keys9 (start c.before).requires
 
 pub flowed_spec : {M : Type 1} → statement M
 flowed_spec =
@@ -260,7 +260,7 @@ flowed_spec =
     enum_known-u
     to-requires
     returns-in-Still
-    enum_told
+    enum_told-1
     to-requires-in-Over
     returns-in-Over
     enum_told-in-LargeFlow

@@ -11,7 +11,7 @@ is_over-requires c κs = search rules
 returns-then-is_over : tie.Need-returns-then-is_over
 unfolding judged_of
 returns-then-is_over c = λ s x.
-    let e = simp (to_z-of_z c.before.before.ranges.v) at c.before.is_over.ensures in
+    let e = simp (to_z-of_z c.ranges.v) at c.is_over.ensures in
     simp (c.if-is_over.true, ← e)
 
 is_under-requires : tie.Need-is_under-requires
@@ -20,16 +20,16 @@ is_under-requires c κs = search rules
 returns-then-is_under : tie.Need-returns-then-is_under
 unfolding judged_of
 returns-then-is_under c = λ s x.
-    let e = simp (to_z-of_z c.before.before.before.before.ranges.v) at c.before.is_under.ensures in
-    let d = simp (to_z-of_z c.before.before.before.before.ranges.v) at c.before.before.before.is_over.ensures in
-    simp (c.if-is_under.true, ← e, c.before.before.if-is_over.false, ← d)
+    let e = simp (to_z-of_z c.ranges.v) at c.is_under.ensures in
+    let d = simp (to_z-of_z c.ranges.v) at c.is_over.ensures in
+    simp (c.if-is_under.true, ← e, c.if-is_over.false, ← d)
 
 returns : tie.Need-returns
 unfolding judged_of
 returns c = λ s x.
-    let e = simp (to_z-of_z c.before.before.before.before.ranges.v) at c.before.is_under.ensures in
-    let d = simp (to_z-of_z c.before.before.before.before.ranges.v) at c.before.before.before.is_over.ensures in
-    simp (c.if-is_under.false, ← e, c.before.before.if-is_over.false, ← d)
+    let e = simp (to_z-of_z c.ranges.v) at c.is_under.ensures in
+    let d = simp (to_z-of_z c.ranges.v) at c.is_over.ensures in
+    simp (c.if-is_under.false, ← e, c.if-is_over.false, ← d)
 
 pub judge_spec : {M : Type 1} → statement M
 judge_spec = tie.close (tie.spec is_over-requires returns-then-is_over is_under-requires returns-then-is_under returns)

@@ -10,7 +10,7 @@ use Rattle.batch.proofs.stages.wait.Tie as tie
 
 returns-then-n-t : tie.Need-returns-then-n-t
 unfolding wait_of
-returns-then-n-t c = simp (le-leb c.before.args.n (suc c.before.args.t) (omega arith))
+returns-then-n-t c = simp (le-leb c.args.n (suc c.args.t) (omega arith))
 
 returns-then-n-next : tie.Need-returns-then-n-next
 unfolding wait_of

@@ -3,57 +3,57 @@ use Rattle.std.proofs.Common.{◌-◌, ◌≤◌, length, rules}
 use Rattle.bench.proofs.digest.of_outputs.Statement.{statement}
 use Rattle.bench.proofs.digest.of_outputs.Tie as tie
 
-abbrev invariant_loop : tie.invariant-loop-i
-invariant_loop reply weights h₀ i₀ h i = i ≤ length reply
+abbrev invariant-loop-i : tie.invariant-loop-i
+invariant-loop-i reply weights h₀ i₀ h i = i ≤ length reply
 
-abbrev decreases_loop : tie.decreases-loop-i
-decreases_loop reply weights h₀ i₀ h i = length reply - i
+abbrev decreases-loop-i : tie.decreases-loop-i
+decreases-loop-i reply weights h₀ i₀ h i = length reply - i
 
-narrow-requires : tie.Need-narrow-requires invariant_loop decreases_loop
+narrow-requires : tie.Need-narrow-requires invariant-loop-i decreases-loop-i
 narrow-requires c κs = search rules
 
-narrow-weights-requires : tie.Need-narrow-weights-requires invariant_loop decreases_loop
+narrow-weights-requires : tie.Need-narrow-weights-requires invariant-loop-i decreases-loop-i
 narrow-weights-requires c κs = search rules
 
-overflow_cast-seen : tie.Need-overflow_cast-seen invariant_loop decreases_loop
+overflow_cast-seen : tie.Need-overflow_cast-seen invariant-loop-i decreases-loop-i
 overflow_cast-seen c = search rules
 
-mixed-requires : tie.Need-mixed-requires invariant_loop decreases_loop
+mixed-requires : tie.Need-mixed-requires invariant-loop-i decreases-loop-i
 mixed-requires c κs = search rules
 
-mixed-h-requires : tie.Need-mixed-h-requires invariant_loop decreases_loop
+mixed-h-requires : tie.Need-mixed-h-requires invariant-loop-i decreases-loop-i
 mixed-h-requires c κs = search rules
 
-loop-i-init : tie.Need-loop-i-init invariant_loop decreases_loop
+loop-i-init : tie.Need-loop-i-init invariant-loop-i decreases-loop-i
 loop-i-init c = search rules
 
-bounds-reply-i : tie.Need-bounds-reply-i invariant_loop decreases_loop
+bounds-reply-i : tie.Need-bounds-reply-i invariant-loop-i decreases-loop-i
 bounds-reply-i c = search rules
 
-wide_byte-requires : tie.Need-wide_byte-requires invariant_loop decreases_loop
+wide_byte-requires : tie.Need-wide_byte-requires invariant-loop-i decreases-loop-i
 wide_byte-requires c κs = search rules
 
-mixed-h-requires-in-loop-i : tie.Need-mixed-h-requires-in-loop-i invariant_loop decreases_loop
+mixed-h-requires-in-loop-i : tie.Need-mixed-h-requires-in-loop-i invariant-loop-i decreases-loop-i
 mixed-h-requires-in-loop-i c κs = search rules
 
-overflow_add-i : tie.Need-overflow_add-i invariant_loop decreases_loop
+overflow_add-i : tie.Need-overflow_add-i invariant-loop-i decreases-loop-i
 overflow_add-i c = search rules
 
-loop-i-smaller : tie.Need-loop-i-smaller invariant_loop decreases_loop
+loop-i-smaller : tie.Need-loop-i-smaller invariant-loop-i decreases-loop-i
 loop-i-smaller c = search rules
 
-loop-i-preserved : tie.Need-loop-i-preserved invariant_loop decreases_loop
+loop-i-preserved : tie.Need-loop-i-preserved invariant-loop-i decreases-loop-i
 loop-i-preserved c = search rules
 
-returns : tie.Need-returns invariant_loop decreases_loop
+returns : tie.Need-returns invariant-loop-i decreases-loop-i
 returns c = search rules
 
 pub of_outputs_spec : {M : Type 1} → statement M
 of_outputs_spec =
     tie.close
     (tie.spec
-    invariant_loop
-    decreases_loop
+    invariant-loop-i
+    decreases-loop-i
     narrow-requires
     narrow-weights-requires
     overflow_cast-seen

@@ -23,8 +23,8 @@ shape_of-s c = search rules
 returns : tie.Need-returns
 unfolding put_all
 returns c =
-    let e1 = c.before.before.before.before.before.before.before.put_u8.ensures ∙ (λ i. put_be 1 (c.before.before.before.before.before.before.before.before.analog_number_lem.ensures i) c.before.before.before.before.before.before.before.before.before.before.before.args.s-1.now 13) in
-    c.before.before.put_u8-2.ensures ∙ (λ i. put_be 1 (c.before.before.before.length_byte.ensures i) (e1 i) 15)
+    let e1 = c.put_u8.ensures ∙ (λ i. put_be 1 (c.analog_number_lem.ensures i) c.args.s.now 13) in
+    c.put_u8-2.ensures ∙ (λ i. put_be 1 (c.length_byte.ensures i) (e1 i) 15)
 
 pub put_beside_spec : {M : Type 1} → statement M
 put_beside_spec =

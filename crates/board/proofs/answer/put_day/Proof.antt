@@ -41,18 +41,18 @@ put_i64-requires-3 : tie.Need-put_i64-requires-3
 put_i64-requires-3 c κs = search rules
 
 shape_of-s : tie.Need-shape_of-s
-shape_of-s c = search (rules, c.before.before.put_i64-3, c.before.before.before.before.before.before.before.put_i64-2, c.before.before.before.before.before.before.before.before.before.before.before.before.put_i64, c.before.before.before.before.before.before.before.before.before.before.before.before.before.before.before.before.before.put_i32-2, c.before.before.before.before.before.before.before.before.before.before.before.before.before.before.before.before.before.before.before.before.before.before.put_i32, c.before.before.before.before.before.before.before.before.before.before.before.before.before.before.before.before.before.before.before.before.before.before.before.before.before.before.before.put_flag)
+shape_of-s c = search (rules, c.put_i64-3, c.put_i64-2, c.put_i64, c.put_i32-2, c.put_i32, c.put_flag)
 
 returns : tie.Need-returns
 unfolding closed_put closed_flag closed_book put_all
 returns c =
     let f = fields c.before.before.before.before.before.before.before.before.before.before.before.before.before.before.before.before.before.before.before.before.before.before.before.before.before.before.before.before.before.before in
-    let e1 = c.before.before.before.before.before.before.before.before.before.before.before.before.before.before.before.before.before.before.before.before.before.before.before.before.before.before.before.put_flag.ensures in
-    let e2 = c.before.before.before.before.before.before.before.before.before.before.before.before.before.before.before.before.before.before.before.before.before.before.put_i32.ensures ∙ (λ i. put_be 4 (coded w32 ((arg f.opening).read i)) (e1 i) 24) in
-    let e3 = c.before.before.before.before.before.before.before.before.before.before.before.before.before.before.before.before.before.put_i32-2.ensures ∙ (λ i. put_be 4 (coded w32 ((arg f.last).read i)) (e2 i) 28) in
-    let e4 = c.before.before.before.before.before.before.before.before.before.before.before.before.put_i64.ensures ∙ (λ i. put_be 8 (coded w64 ((arg f.refilled).read i)) (e3 i) 32) in
-    let e5 = c.before.before.before.before.before.before.before.put_i64-2.ensures ∙ (λ i. put_be 8 (coded w64 ((arg f.used).read i)) (e4 i) 40) in
-    c.before.before.put_i64-3.ensures ∙ (λ i. put_be 8 (coded w64 ((arg f.unbooked).read i)) (e5 i) 48)
+    let e1 = c.put_flag.ensures in
+    let e2 = c.put_i32.ensures ∙ (λ i. put_be 4 (coded w32 ((arg f.opening).read i)) (e1 i) 24) in
+    let e3 = c.put_i32-2.ensures ∙ (λ i. put_be 4 (coded w32 ((arg f.last).read i)) (e2 i) 28) in
+    let e4 = c.put_i64.ensures ∙ (λ i. put_be 8 (coded w64 ((arg f.refilled).read i)) (e3 i) 32) in
+    let e5 = c.put_i64-2.ensures ∙ (λ i. put_be 8 (coded w64 ((arg f.used).read i)) (e4 i) 40) in
+    c.put_i64-3.ensures ∙ (λ i. put_be 8 (coded w64 ((arg f.unbooked).read i)) (e5 i) 48)
 
 pub put_day_spec : {M : Type 1} → statement M
 put_day_spec =

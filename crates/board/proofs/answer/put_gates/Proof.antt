@@ -27,11 +27,11 @@ returns : tie.Need-returns
 unfolding put_all
 returns c =
     let a = c.before.before.before.before.before.before.before.before.before.before.before.before.before.before.before.before.before.before.before.before.before in
-    let e1 = c.before.before.before.before.before.before.before.before.before.before.before.before.before.before.before.before.before.before.put_u8.ensures in
-    let e2 = c.before.before.before.before.before.before.before.before.before.before.before.before.before.before.put_flag.ensures ∙ (λ i. put_be 1 (flag_tag a.args.g.large) (e1 i) 5) in
-    let e3 = c.before.before.before.before.before.before.before.before.before.before.put_flag-2.ensures ∙ (λ i. put_be 1 (flag_tag a.args.g.medium) (e2 i) 6) in
-    let e4 = c.before.before.before.before.before.before.put_flag-3.ensures ∙ (λ i. put_be 1 (flag_tag a.args.g.small) (e3 i) 7) in
-    c.before.before.put_flag-4.ensures ∙ (λ i. put_be 1 (flag_tag a.args.g.discharge) (e4 i) 8)
+    let e1 = c.put_u8.ensures in
+    let e2 = c.put_flag.ensures ∙ (λ i. put_be 1 (flag_tag a.args.g.large) (e1 i) 5) in
+    let e3 = c.put_flag-2.ensures ∙ (λ i. put_be 1 (flag_tag a.args.g.medium) (e2 i) 6) in
+    let e4 = c.put_flag-3.ensures ∙ (λ i. put_be 1 (flag_tag a.args.g.small) (e3 i) 7) in
+    c.put_flag-4.ensures ∙ (λ i. put_be 1 (flag_tag a.args.g.discharge) (e4 i) 8)
 
 pub put_gates_spec : {M : Type 1} → statement M
 put_gates_spec =

@@ -31,8 +31,8 @@ unfolding put_all
 returns c =
     let a = c.before.before.before.before.before.before.before.before.before.before.before in
     let f = fields a in
-    let e1 = c.before.before.before.before.before.before.before.put_i32.ensures ∙ (λ i. put_be 4 (coded w32 ((arg f.gross).read i)) a.args.s-1.now 16) in
-    c.before.before.put_i32-2.ensures ∙ (λ i. put_be 4 (coded w32 ((arg f.net).read i)) (e1 i) 20)
+    let e1 = c.put_i32.ensures ∙ (λ i. put_be 4 (coded w32 ((arg f.gross).read i)) a.args.s.now 16) in
+    c.put_i32-2.ensures ∙ (λ i. put_be 4 (coded w32 ((arg f.net).read i)) (e1 i) 20)
 
 pub put_gross_spec : {M : Type 1} → statement M
 put_gross_spec = tie.close (tie.spec put_i32-requires put_i32-requires-2 shape_of-s returns)

@@ -33,12 +33,12 @@ shape_of-s c = search rules
 returns : tie.Need-returns
 unfolding closed_put closed_flag closed_book put_all
 returns c =
-    let e1 = c.before.before.before.before.before.before.before.before.before.before.before.before.before.before.before.before.before.before.before.before.before.before.put_flag.ensures in
-    let e2 = c.before.before.before.before.before.before.before.before.before.before.before.before.before.before.before.before.before.before.put_i32.ensures ∙ (λ i. put_be 4 (coded w32 (pos 0)) (e1 i) 24) in
-    let e3 = c.before.before.before.before.before.before.before.before.before.before.before.before.before.before.put_i32-2.ensures ∙ (λ i. put_be 4 (coded w32 (pos 0)) (e2 i) 28) in
-    let e4 = c.before.before.before.before.before.before.before.before.before.before.put_i64.ensures ∙ (λ i. put_be 8 (coded w64 (pos 0)) (e3 i) 32) in
-    let e5 = c.before.before.before.before.before.before.put_i64-2.ensures ∙ (λ i. put_be 8 (coded w64 (pos 0)) (e4 i) 40) in
-    c.before.before.put_i64-3.ensures ∙ (λ i. put_be 8 (coded w64 (pos 0)) (e5 i) 48)
+    let e1 = c.put_flag.ensures in
+    let e2 = c.put_i32.ensures ∙ (λ i. put_be 4 (coded w32 (pos 0)) (e1 i) 24) in
+    let e3 = c.put_i32-2.ensures ∙ (λ i. put_be 4 (coded w32 (pos 0)) (e2 i) 28) in
+    let e4 = c.put_i64.ensures ∙ (λ i. put_be 8 (coded w64 (pos 0)) (e3 i) 32) in
+    let e5 = c.put_i64-2.ensures ∙ (λ i. put_be 8 (coded w64 (pos 0)) (e4 i) 40) in
+    c.put_i64-3.ensures ∙ (λ i. put_be 8 (coded w64 (pos 0)) (e5 i) 48)
 
 pub put_none_spec : {M : Type 1} → statement M
 put_none_spec =

@@ -34,13 +34,13 @@ shape_of-s c = search rules
 returns : tie.Need-returns
 unfolding outputs_put put_all
 returns c =
-    let a = c.before.before.before.before.before.before.before.before.before.before.before.before.before.before.before.before.before.before.before.before.before.before.before.before.before.before.args in
-    let e1 = c.before.before.before.before.before.before.before.before.before.before.before.before.before.before.before.before.before.before.before.before.before.before.before.put_weights.ensures in
-    let e2 = c.before.before.before.before.before.before.before.before.before.before.before.before.before.before.before.before.before.before.put_gates.ensures ∙ (λ i. put_all gate_rows (gate_numbers (c.before.before.before.before.before.before.before.before.before.before.before.before.before.before.before.before.before.before.before.stage_number.ensures i) a.a.gates) (e1 i)) in
-    let e3 = c.before.before.before.before.before.before.before.before.before.before.before.before.before.before.put_signals.ensures ∙ (λ i. put_all signal_rows (signal_numbers a.a) (e2 i)) in
-    let e4 = c.before.before.before.before.before.before.before.before.before.before.put_beside.ensures ∙ (λ i. put_all beside_rows (beside_numbers a.length a.a) (e3 i)) in
-    let e5 = c.before.before.before.before.before.before.put_gross.ensures ∙ (λ i. put_all gross_rows (gross_numbers a.a.reading) (e4 i)) in
-    c.before.before.put_value.ensures ∙ (λ i. put_all value_rows (value_numbers a.a) (e5 i))
+    let a = c.args in
+    let e1 = c.put_weights.ensures in
+    let e2 = c.put_gates.ensures ∙ (λ i. put_all gate_rows (gate_numbers (c.stage_number.ensures i) a.a.gates) (e1 i)) in
+    let e3 = c.put_signals.ensures ∙ (λ i. put_all signal_rows (signal_numbers a.a) (e2 i)) in
+    let e4 = c.put_beside.ensures ∙ (λ i. put_all beside_rows (beside_numbers a.length a.a) (e3 i)) in
+    let e5 = c.put_gross.ensures ∙ (λ i. put_all gross_rows (gross_numbers a.a.reading) (e4 i)) in
+    c.put_value.ensures ∙ (λ i. put_all value_rows (value_numbers a.a) (e5 i))
 
 pub put_outputs_spec : {M : Type 1} → statement M
 put_outputs_spec =

@@ -30,10 +30,10 @@ returns : tie.Need-returns
 unfolding put_all
 returns c =
     let a = c.before.before.before.before.before.before.before.before.before.before.before.before.before.before.before.before.before.before.before in
-    let e1 = c.before.before.before.before.before.before.before.before.before.before.before.before.before.before.before.put_u8.ensures ∙ (λ i. put_be 1 (c.before.before.before.before.before.before.before.before.before.before.before.before.before.before.before.before.judgement_number.ensures i) a.args.s-1.now 9) in
-    let e2 = c.before.before.before.before.before.before.before.before.before.before.put_u8-2.ensures ∙ (λ i. put_be 1 (c.before.before.before.before.before.before.before.before.before.before.before.error_number.ensures i) (e1 i) 10) in
-    let e3 = c.before.before.before.before.before.before.put_flag.ensures ∙ (λ i. put_be 1 (flag_tag a.args.a.near) (e2 i) 11) in
-    c.before.before.put_flag-2.ensures ∙ (λ i. put_be 1 (flag_tag a.args.a.full) (e3 i) 12)
+    let e1 = c.put_u8.ensures ∙ (λ i. put_be 1 (c.judgement_number.ensures i) a.args.s.now 9) in
+    let e2 = c.put_u8-2.ensures ∙ (λ i. put_be 1 (c.error_number.ensures i) (e1 i) 10) in
+    let e3 = c.put_flag.ensures ∙ (λ i. put_be 1 (flag_tag a.args.a.near) (e2 i) 11) in
+    c.put_flag-2.ensures ∙ (λ i. put_be 1 (flag_tag a.args.a.full) (e3 i) 12)
 
 pub put_signals_spec : {M : Type 1} → statement M
 put_signals_spec =

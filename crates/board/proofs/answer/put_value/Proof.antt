@@ -18,7 +18,7 @@ returns : tie.Need-returns
 unfolding put_all
 returns c =
     let a = c.before.before.before.before.before.before in
-    c.before.before.put_u64.ensures ∙ (λ i. put_be 8 (c.before.before.before.analog_bits.ensures i) a.args.s-1.now 56)
+    c.put_u64.ensures ∙ (λ i. put_be 8 (c.analog_bits.ensures i) a.args.s.now 56)
 
 pub put_value_spec : {M : Type 1} → statement M
 put_value_spec = tie.close (tie.spec analog_bits-requires put_u64-requires shape_of-s returns)

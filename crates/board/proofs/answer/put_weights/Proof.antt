@@ -24,10 +24,10 @@ returns : tie.Need-returns
 unfolding put_all
 returns c =
     let a = c.before.before.before.before.before.before.before.before.before.before.before.before.before.before.before.before.before in
-    let e1 = c.before.before.before.before.before.before.before.before.before.before.before.before.before.before.put_u8.ensures in
-    let e2 = c.before.before.before.before.before.before.before.before.before.before.put_flag.ensures ∙ (λ i. put_be 1 (flag_tag a.args.x.good) (e1 i) 1) in
-    let e3 = c.before.before.before.before.before.before.put_flag-2.ensures ∙ (λ i. put_be 1 (flag_tag a.args.x.overload) (e2 i) 2) in
-    c.before.before.put_flag-3.ensures ∙ (λ i. put_be 1 (flag_tag a.args.x.stable) (e3 i) 3)
+    let e1 = c.put_u8.ensures in
+    let e2 = c.put_flag.ensures ∙ (λ i. put_be 1 (flag_tag a.args.x.good) (e1 i) 1) in
+    let e3 = c.put_flag-2.ensures ∙ (λ i. put_be 1 (flag_tag a.args.x.overload) (e2 i) 2) in
+    c.put_flag-3.ensures ∙ (λ i. put_be 1 (flag_tag a.args.x.stable) (e3 i) 3)
 
 pub put_weights_spec : {M : Type 1} → statement M
 put_weights_spec =

@@ -15,7 +15,7 @@ returns-then-i-points : tie.Need-returns-then-i-points
 returns-then-i-points c = search rules
 
 returns-else-i-points : tie.Need-returns-else-i-points
-returns-else-i-points c = sym (get_or-eq_default c.before.args.points.now 0 c.if-i-points.false)
+returns-else-i-points c = sym (get_or-eq_default c.args.points.now 0 c.if-i-points.false)
 
 pub point_spec : {M : Type 1} → statement M
 point_spec = tie.close (tie.spec offset_bounds-points-i bounds-points-i returns-then-i-points returns-else-i-points)

@@ -27,7 +27,7 @@ point-near-requires c κs = search rules
 
 returns : tie.Need-returns
 unfolding points_of
-returns c = simp (c.point-near.ensures, c.before.point-under.ensures, c.before.before.point-over.ensures, c.before.before.before.point-optional.ensures, c.before.before.before.before.point-preliminary.ensures, c.before.before.before.before.before.point-fall.ensures, c.before.before.before.before.before.before.point-target.ensures)
+returns c = simp (c.point-near.ensures, c.point-under.ensures, c.point-over.ensures, c.point-optional.ensures, c.point-preliminary.ensures, c.point-fall.ensures, c.point-target.ensures)
 
 pub points_of_spec : {M : Type 1} → statement M
 points_of_spec =

@@ -23,10 +23,10 @@ weigh-requires c κs = search rules
 returns : tie.Need-returns
 unfolding weights_of
 returns c st h =
-    let a = c.before.before.before.before.before.args in
-    let q = read_part (λ (t : State). t.stability) c.before.before.before.stability_at-stability.ensures h in
-    let w = read_part (λ (t : State). t.weighing) c.before.before.weighing_at-weighing.ensures h in
-    c.weigh.ensures ∙ (λ i. weigh_of a.s (q i) (w i) (c.before.raw_again.ensures i) a.x.contact)
+    let a = c.args in
+    let q = read_part (λ (t : State). t.stability) c.stability_at-stability.ensures h in
+    let w = read_part (λ (t : State). t.weighing) c.weighing_at-weighing.ensures h in
+    c.weigh.ensures ∙ (λ i. weigh_of a.s (q i) (w i) (c.raw_again.ensures i) a.x.contact)
 
 pub again_spec : {M : Type 1} → statement M
 again_spec =

@@ -37,11 +37,11 @@ shape_of-answer c = search rules
 
 returns : tie.Need-returns
 returns c st h =
-    let a = c.before.before.before.before.before.before.before.before.before.before.before.before.before.args in
-    let e = c.before.before.before.before.outputs-a.ensures
-    ∙ shown_by _ _ _ _ _ st (read_part (λ (t : State). t.panel) c.before.before.before.before.before.before.before.before.before.before.panel_at-panel.ensures h) (read_part (λ (t : State). t.setpoints) c.before.before.before.before.before.before.before.before.before.setpoints_at-setpoints.ensures h)
-    (read_part (λ (t : State). t.sequence) c.before.before.before.before.before.before.before.before.sequence_at-sequence.ensures h) in
-    c.before.before.put_outputs.ensures ∙ ap (λ (o : Answer). outputs_put a.told a.length o a.answer-1.now) e
+    let a = c.args in
+    let e = c.outputs-a.ensures
+    ∙ shown_by _ _ _ _ _ st (read_part (λ (t : State). t.panel) c.panel_at-panel.ensures h) (read_part (λ (t : State). t.setpoints) c.setpoints_at-setpoints.ensures h)
+    (read_part (λ (t : State). t.sequence) c.sequence_at-sequence.ensures h) in
+    c.put_outputs.ensures ∙ ap (λ (o : Answer). outputs_put a.told a.length o a.answer.now) e
 
 pub answer_spec : {M : Type 1} → statement M
 answer_spec =

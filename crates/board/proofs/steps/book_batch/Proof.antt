@@ -28,10 +28,10 @@ shape_of-state c = search rules
 returns : tie.Need-returns
 returns c st h =
     let start = c.before.before.before.before.before.before.before.before.before.before.before.before.before in
-    let t = read_part (λ (t : State). t.totals) c.before.before.before.before.before.before.before.before.before.before.totals_at-totals.ensures h in
-    let es = by_totals _ _ _ t (simp (to_z-of_z start.ranges.v) at c.before.before.before.before.before.before.before.before.booked_sequence.ensures) in
-    let et = booked_by _ _ t (simp (to_z-of_z start.ranges.v) at c.before.before.before.booked_totals.ensures) in
-    held_as (λ i. with_totals (with_sequence st (es i)) (et i)) (c.before.before.put_totals.ensures.0 _ (c.before.before.before.before.before.before.before.put_sequence.ensures.0 st h))
+    let t = read_part (λ (t : State). t.totals) c.totals_at-totals.ensures h in
+    let es = by_totals _ _ _ t (simp (to_z-of_z start.ranges.v) at c.booked_sequence.ensures) in
+    let et = booked_by _ _ t (simp (to_z-of_z start.ranges.v) at c.booked_totals.ensures) in
+    held_as (λ i. with_totals (with_sequence st (es i)) (et i)) (c.put_totals.ensures.0 _ (c.put_sequence.ensures.0 st h))
 
 pub book_batch_spec : {M : Type 1} → statement M
 book_batch_spec =

@@ -9,16 +9,16 @@ use Rattle.board.proofs.steps.bring_in.Tie as tie
 waiting_at-waiting-requires : tie.Need-waiting_at-waiting-requires
 waiting_at-waiting-requires c κs = search rules
 
-enum_told : tie.Need-enum_told-1
-enum_told c = search rules
+enum_told-1 : tie.Need-enum_told-1
+enum_told-1 c = search rules
 
 shape_of-state-in-Nothing : tie.Need-shape_of-state-in-Nothing
 shape_of-state-in-Nothing c = search rules
 
 returns-in-Nothing : tie.Need-returns-in-Nothing
 returns-in-Nothing c st h =
-    let w = read_waiting c.before.before.waiting_at-waiting.ensures h in
-    held_as (came_none st (ap (λ (x : Waiting). x.write-1) (sym w) ∙ c.enum_told-1.given.1)) h
+    let w = read_waiting c.waiting_at-waiting.ensures h in
+    held_as (came_none st (ap (λ (x : Waiting). x.write) (sym w) ∙ c.in-Nothing.is)) h
 
 enum_known-write : tie.Need-enum_known-write
 enum_known-write c = search rules
@@ -34,16 +34,16 @@ shape_of-state-in-Points c = search rules
 
 returns-in-Points : tie.Need-returns-in-Points
 returns-in-Points c st h =
-    let w = read_waiting c.before.before.before.before.before.before.before.before.before.before.before.waiting_at-waiting.ensures h in
-    held_as (came_points st _ (ap (λ (x : Waiting). x.write-1) (sym w) ∙ c.before.before.before.before.before.before.before.before.before.write-1.given.1))
-    (c.before.before.clear_waiting.ensures.0 _ (c.before.before.before.before.before.before.put_setpoints.ensures.0 st h))
+    let w = read_waiting c.waiting_at-waiting.ensures h in
+    held_as (came_points st _ (ap (λ (x : Waiting). x.write) (sym w) ∙ c.in-Points.is))
+    (c.clear_waiting.ensures.0 _ (c.put_setpoints.ensures.0 st h))
 
 pub bring_in_spec : {M : Type 1} → statement M
 bring_in_spec =
     tie.close
     (tie.spec
     waiting_at-waiting-requires
-    enum_told
+    enum_told-1
     shape_of-state-in-Nothing
     returns-in-Nothing
     enum_known-write

@@ -21,7 +21,7 @@ shape_of-state : tie.Need-shape_of-state
 shape_of-state c = search rules
 
 returns : tie.Need-returns
-returns c st h = held_as (λ i. with_sequence st ((c.before.before.before.discharge_sequence.ensures ∙ ap discharge_sequence (read_part (λ (t : State). t.sequence) c.before.before.before.before.before.sequence_at-sequence.ensures h)) i)) (c.before.before.put_sequence.ensures.0 st h)
+returns c st h = held_as (λ i. with_sequence st ((c.discharge_sequence.ensures ∙ ap discharge_sequence (read_part (λ (t : State). t.sequence) c.sequence_at-sequence.ensures h)) i)) (c.put_sequence.ensures.0 st h)
 
 pub discharge_spec : {M : Type 1} → statement M
 discharge_spec =

@@ -20,21 +20,21 @@ start c = c.before.before.before.before.before.before.before.before.before.befor
 
 -- what the parts made come to
 record Made (c : tie.After-weigh) (st : State) : Type 0 where
-  raw : c.before.before.before.before.before.before.before.before.before.before.before.before.before.before.before.before.before.before.raw_of-raw.result ≡ raw_of (start c).args.s.calibration (start c).args.count
-  steadied : c.before.before.before.before.before.before.before.before.before.before.steadied-steadied.result ≡ steadied_of (start c).args.s.steadiness st.stability st.book.last (raw_of (start c).args.s.calibration (start c).args.count)
-  booked : c.before.before.before.before.before.before.before.before.book_tick.result ≡ book_of st.book (raw_of (start c).args.s.calibration (start c).args.count) (start c).args.contact
+  raw : c.raw_of.result ≡ raw_of (start c).args.s.calibration (start c).args.count
+  steadied : c.steadied-steadied.result ≡ steadied_of (start c).args.s.steadiness st.stability st.book.last (raw_of (start c).args.s.calibration (start c).args.count)
+  booked : c.book_tick.result ≡ book_of st.book (raw_of (start c).args.s.calibration (start c).args.count) (start c).args.contact
 
-made : (c : tie.After-weigh) (st : State) → Holds (start c).args.state-1.now st → Made c st
+made : (c : tie.After-weigh) (st : State) → Holds (start c).args.state.now st → Made c st
 made c st h =
     let a = (start c).args in
-    let er = simp (to_z-of_z (start c).ranges.count) at c.before.before.before.before.before.before.before.before.before.before.before.before.before.before.before.before.before.before.raw_of-raw.ensures in
-    let b = read_part (λ (t : State). t.book) c.before.before.before.before.before.before.before.before.before.before.before.before.before.before.before.before.book_at-book.ensures h in
-    let q = read_part (λ (t : State). t.stability) c.before.before.before.before.before.before.before.before.before.before.before.before.before.before.stability_at-stability.ensures h in
-    let last : SFits w32 c.before.before.before.before.before.before.before.before.before.before.before.before.before.before.before.before.book_at-book.result.last = search (sfits_of, c.before.before.before.before.before.before.before.before.before.before.before.struct_told-1.given) in
+    let er = simp (to_z-of_z (start c).ranges.count) at c.raw_of.ensures in
+    let b = read_part (λ (t : State). t.book) c.book-at.ensures h in
+    let q = read_part (λ (t : State). t.stability) c.stability_at-stability.ensures h in
+    let last : SFits w32 c.book-at.result.last = search (sfits_of, c.struct_told-1.given) in
     record {
       raw = er;
-      steadied = simp (to_z-of_z last) at c.before.before.before.before.before.before.before.before.before.before.steadied-steadied.ensures ∙ (λ i. steadied_of a.s.steadiness (q i) (b i).last (er i));
-      booked = c.before.before.before.before.before.before.before.before.book_tick.ensures ∙ (λ i. book_of (b i) (er i) a.contact);
+      steadied = simp (to_z-of_z last) at c.steadied-steadied.ensures ∙ (λ i. steadied_of a.s.steadiness (q i) (b i).last (er i));
+      booked = c.book_tick.ensures ∙ (λ i. book_of (b i) (er i) a.contact);
     }
 
 raw_of-raw-requires : tie.Need-raw_of-raw-requires
@@ -71,8 +71,8 @@ returns : tie.Need-returns
 unfolding entered_of weights_of
 returns c =
     let a = (start c).args in (
-      (λ st h. held_as (λ i. with_stability (with_book st ((made c st h).booked i)) ((made c st h).steadied-steadied i)) (c.before.before.before.put_stability.ensures.0 _ (c.before.before.before.before.before.before.before.put_book.ensures.0 st h))),
-      (λ st h. c.weigh.ensures ∙ (λ i. weigh_of a.s ((made c st h).steadied-steadied i) (read_part (λ (t : State). t.weighing) c.before.before.before.before.before.before.before.before.before.before.before.before.weighing_at-weighing.ensures h i) ((made c st h).raw i) a.contact)),
+      (λ st h. held_as (λ i. with_stability (with_book st ((made c st h).booked i)) ((made c st h).steadied i)) (c.put_stability.ensures.0 _ (c.put_book.ensures.0 st h))),
+      (λ st h. c.weigh.ensures ∙ (λ i. weigh_of a.s ((made c st h).steadied i) (read_part (λ (t : State). t.weighing) c.weighing_at-weighing.ensures h i) ((made c st h).raw i) a.contact)),
     )
 
 pub enter_spec : {M : Type 1} → statement M

@@ -41,11 +41,11 @@ shape_of-state-then-not-is_idle c = search rules
 returns-then-not-is_idle : tie.Need-returns-then-not-is_idle
 returns-then-not-is_idle c st h e runs =
     let on = c.before.before.before.before.before.before.before in
-    let n = read_part (λ (t : State). t.setpoints) on.before.before.setpoints_at-setpoints.ensures h in
-    let v = on.before.before.before.before.before.compared-v in
-    let ev = (be (got {w = w64} v.result v.type-inv) v.ensures).read in
+    let n = read_part (λ (t : State). t.setpoints) on.setpoints_at-setpoints.ensures h in
+    let v = on.compared-v in
+    let ev = (be (got {w = w64} v.result v.type_inv) v.ensures).read in
     let ea = by_sequence _ _ _ _ e (simp (to_z-of_z (gross on.before.before.before.before.before.before.before.before)) at on.advance-a.ensures) in
-    held_as (step-on _ st _ _ _ _ _ n on.before.before.before.before.is_fit-fit.ensures ev ea (sym c.before.before.before.before.before.is_idle.ensures ∙ not-true _ c.before.before.before.before.if-not-is_idle.true)) (c.before.before.put_sequence.ensures.0 st h)
+    held_as (step-on _ st _ _ _ _ _ n on.is_fit-fit.ensures ev ea (sym c.is_idle.ensures ∙ not-true _ c.if-not-is_idle.true)) (c.put_sequence.ensures.0 st h)
 
 book_batch-requires : tie.Need-book_batch-requires
 book_batch-requires c κs = search rules
@@ -59,13 +59,13 @@ shape_of-state-then-a c = search rules
 returns-then-a : tie.Need-returns-then-a
 returns-then-a c st h e runs =
     let on = c.before.before.before.before.before.before.before.before.before.before.before.before in
-    let n = read_part (λ (t : State). t.setpoints) on.before.before.setpoints_at-setpoints.ensures h in
-    let v = on.before.before.before.before.before.compared-v in
-    let ev = (be (got {w = w64} v.result v.type-inv) v.ensures).read in
+    let n = read_part (λ (t : State). t.setpoints) on.setpoints_at-setpoints.ensures h in
+    let v = on.compared-v in
+    let ev = (be (got {w = w64} v.result v.type_inv) v.ensures).read in
     let ea = by_sequence _ _ _ _ e (simp (to_z-of_z (gross on.before.before.before.before.before.before.before.before)) at on.advance-a.ensures) in
-    let back = sym c.before.before.before.before.before.before.before.before.before.before.is_idle.ensures ∙ not-false _ c.before.before.before.before.before.before.before.before.before.if-not-is_idle.false in
-    held_as (step-finished _ st _ _ _ _ _ n on.before.before.before.before.is_fit-fit.ensures ev ea _ _ runs back refl refl _ _ c.before.before.before.before.before.before.before.before.if-a.true refl refl)
-    (c.before.before.bring_in.ensures _ (c.before.before.before.before.before.before.book_batch.ensures st h))
+    let back = sym c.is_idle.ensures ∙ not-false _ c.if-not-is_idle.false in
+    held_as (step-finished _ st _ _ _ _ _ n on.is_fit-fit.ensures ev ea _ _ runs back refl refl _ _ c.if-a.true refl refl)
+    (c.bring_in.ensures _ (c.book_batch.ensures st h))
 
 put_sequence-requires-2 : tie.Need-put_sequence-requires-2
 put_sequence-requires-2 c κs = search rules
@@ -79,13 +79,13 @@ shape_of-state c = search rules
 returns : tie.Need-returns
 returns c st h e runs =
     let on = c.before.before.before.before.before.before.before.before.before.before.before.before in
-    let n = read_part (λ (t : State). t.setpoints) on.before.before.setpoints_at-setpoints.ensures h in
-    let v = on.before.before.before.before.before.compared-v in
-    let ev = (be (got {w = w64} v.result v.type-inv) v.ensures).read in
+    let n = read_part (λ (t : State). t.setpoints) on.setpoints_at-setpoints.ensures h in
+    let v = on.compared-v in
+    let ev = (be (got {w = w64} v.result v.type_inv) v.ensures).read in
     let ea = by_sequence _ _ _ _ e (simp (to_z-of_z (gross on.before.before.before.before.before.before.before.before)) at on.advance-a.ensures) in
-    let back = sym c.before.before.before.before.before.before.before.before.before.before.is_idle.ensures ∙ not-false _ c.before.before.before.before.before.before.before.before.before.if-not-is_idle.false in
-    held_as (step_back _ st _ _ _ _ _ n on.before.before.before.before.is_fit-fit.ensures ev ea _ _ runs back refl refl c.before.before.before.before.before.before.before.before.if-a.false)
-    (c.before.before.bring_in-2.ensures _ (c.before.before.before.before.before.before.put_sequence-2.ensures.0 st h))
+    let back = sym c.is_idle.ensures ∙ not-false _ c.if-not-is_idle.false in
+    held_as (step_back _ st _ _ _ _ _ n on.is_fit-fit.ensures ev ea _ _ runs back refl refl c.if-a.false)
+    (c.bring_in-2.ensures _ (c.put_sequence-2.ensures.0 st h))
 
 pub go_on_spec : {M : Type 1} → statement M
 go_on_spec =

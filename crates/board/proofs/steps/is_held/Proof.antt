@@ -23,7 +23,7 @@ returns-in-Discharge : tie.Need-returns-in-Discharge
 returns-in-Discharge c = search rules
 
 returns-in_default : tie.Need-returns-in_default
-returns-in_default c = not_held c.before.args.d c.in_default.keys4
+returns-in_default c = not_held c.args.d c.in_default.in_default-own.keys4
 
 pub is_held_spec : {M : Type 1} → statement M
 is_held_spec =

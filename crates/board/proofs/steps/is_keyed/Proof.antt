@@ -11,7 +11,7 @@ returns-in-Zero : tie.Need-returns-in-Zero
 returns-in-Zero c = search rules
 
 returns-in_default : tie.Need-returns-in_default
-returns-in_default c = not_keyed c.before.args.d c.in_default.keys2
+returns-in_default c = not_keyed c.args.d c.in_default.in_default-own.keys2
 
 pub is_keyed_spec : {M : Type 1} → statement M
 is_keyed_spec = tie.close (tie.spec enum_told-1 returns-in-Zero returns-in_default)

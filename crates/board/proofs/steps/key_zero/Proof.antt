@@ -24,9 +24,9 @@ shape_of-state c = search rules
 returns : tie.Need-returns
 returns c st h =
     let start = c.before.before.before.before.before.before.before.before in
-    let w = read_part (λ (t : State). t.weighing) c.before.before.before.before.before.weighing_at-weighing.ensures h in
-    let e = simp (to_z-of_z start.ranges.raw) at c.before.before.before.zeroed.ensures ∙ (λ i. zeroed_of (w i) start.args.raw) in
-    held_as (λ i. with_weighing st (e i)) (c.before.before.put_weighing.ensures.0 st h)
+    let w = read_part (λ (t : State). t.weighing) c.weighing_at-weighing.ensures h in
+    let e = simp (to_z-of_z start.ranges.raw) at c.zeroed.ensures ∙ (λ i. zeroed_of (w i) start.args.raw) in
+    held_as (λ i. with_weighing st (e i)) (c.put_weighing.ensures.0 st h)
 
 pub key_zero_spec : {M : Type 1} → statement M
 key_zero_spec =

@@ -12,7 +12,7 @@ raw s = search (sfits_of, s.well-formed.0)
 
 returns-then-x : tie.Need-returns-then-x
 unfolding raw_in
-returns-then-x c = simp (c.before.if-x.true, to_z-of_z (raw c.before.before))
+returns-then-x c = simp (c.if-x.true, to_z-of_z (raw c.before.before))
 
 returns : tie.Need-returns
 unfolding raw_in

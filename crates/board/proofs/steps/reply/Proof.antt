@@ -16,14 +16,14 @@ use Rattle.board.proofs.steps.reply.Tie as tie
 abbrev start : tie.After-slice_known-2-1 → tie.Start
 start c = c.before.before.before.before.before.before.before.before.before.before.before.before.before.before
 
-due : (c : tie.After-slice_known-2-1) (st : State) → Holds (start c).args.state.now st → c.before.before.before.before.reply_due-due.result ≡ reply_due (start c).args.command st (reading_of (start c).args.x) (start c).args.outcome
+due : (c : tie.After-slice_known-2-1) (st : State) → Holds (start c).args.state.now st → c.reply_due-due.result ≡ reply_due (start c).args.command st (reading_of (start c).args.x) (start c).args.outcome
 due c st h =
     let a = (start c).args in
-    c.before.before.before.before.reply_due-due.ensures
-    ∙ due_shown _ st _ a.outcome (read_part (λ (t : State). t.panel) c.before.before.before.before.before.before.before.before.before.before.before.panel_at-panel.ensures h) (read_part (λ (t : State). t.totals) c.before.before.before.before.before.before.before.before.totals_at-totals.ensures h)
-    (read_part (λ (t : State). t.setpoints) c.before.before.before.before.before.before.before.before.before.before.setpoints_at-setpoints.ensures h)
-    (read_waiting c.before.before.before.before.before.before.before.before.before.waiting_at-waiting.ensures h) a.command
-    ∙ ap (λ (x : Reading). reply_due a.command st x a.outcome) c.before.before.before.before.before.reading-reading.ensures
+    c.reply_due-due.ensures
+    ∙ due_shown _ st _ a.outcome (read_part (λ (t : State). t.panel) c.panel_at-panel.ensures h) (read_part (λ (t : State). t.totals) c.totals_at-totals.ensures h)
+    (read_part (λ (t : State). t.setpoints) c.setpoints_at-setpoints.ensures h)
+    (read_waiting c.waiting_at-waiting.ensures h) a.command
+    ∙ ap (λ (x : Reading). reply_due a.command st x a.outcome) c.reading-reading.ensures
 
 panel_at-panel-requires : tie.Need-panel_at-panel-requires
 panel_at-panel-requires c κs = search rules
@@ -58,8 +58,8 @@ shape_of-reply c = search rules
 returns : tie.Need-returns
 returns c =
     let a = (start c).args in (
-      (λ st h. c.before.before.write_reply.ensures.0 ∙ ap (λ (r : Reply). wrote_of (reply_text a.s.address r) a.reply-1.now) (due c st h)),
-      (λ st h. c.before.before.write_reply.ensures.1 ∙ ap (λ (r : Reply). written_of (reply_text a.s.address r) a.reply-1.now) (due c st h)),
+      (λ st h. c.write_reply.ensures.0 ∙ ap (λ (r : Reply). wrote_of (reply_text a.s.address r) a.reply.now) (due c st h)),
+      (λ st h. c.write_reply.ensures.1 ∙ ap (λ (r : Reply). written_of (reply_text a.s.address r) a.reply.now) (due c st h)),
     )
 
 pub reply_spec : {M : Type 1} → statement M

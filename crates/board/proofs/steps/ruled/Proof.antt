@@ -19,10 +19,10 @@ ruling-requires c κs = search rules
 returns : tie.Need-returns
 unfolding ruling_of
 returns c st h =
-    let a = c.before.before.before.before.before.args in
-    let q = read_part (λ (t : State). t.sequence) c.before.before.sequence_at-sequence.ensures h in
-    let t = read_part (λ (t : State). t.totals) c.before.totals_at-totals.ensures h in
-    c.ruling.ensures ∙ (λ i. first_of (rows_to a.s.range a.s.batching-1.mode (q i) (t i) a.x a.request))
+    let a = c.args in
+    let q = read_part (λ (t : State). t.sequence) c.sequence_at-sequence.ensures h in
+    let t = read_part (λ (t : State). t.totals) c.totals_at-totals.ensures h in
+    c.ruling.ensures ∙ (λ i. first_of (rows_to a.s.range a.s.batching.mode (q i) (t i) a.x a.request))
 
 pub ruled_spec : {M : Type 1} → statement M
 ruled_spec = tie.close (tie.spec sequence_at-sequence-requires totals_at-totals-requires ruling-requires returns)

@@ -24,7 +24,7 @@ gross : (s : tie.Start) → SFits w32 s.args.x.gross
 gross s = search (sfits_of, s.well-formed.1.0)
 
 abbrev leaving : Settled → State
-leaving a = a.state-1
+leaving a = a.state
 
 -- the answer with the day that was closed
 abbrev closing : List ℕ → Settled → List ℕ
@@ -33,19 +33,19 @@ closing l a = closed_put a.closed l
 put_none-requires : tie.Need-put_none-requires
 put_none-requires c κs = search rules
 
-enum_told : tie.Need-enum_told-1
-enum_told c = search rules
+enum_told-1 : tie.Need-enum_told-1
+enum_told-1 c = search rules
 
 shape_of-answer-in-Nothing : tie.Need-shape_of-answer-in-Nothing
 shape_of-answer-in-Nothing c = search rules
 
 returns-in-Nothing : tie.Need-returns-in-Nothing
 returns-in-Nothing c =
-    let start = c.before.before.before.before.before.before.before.before in
-    let told = ap beside_batch c.enum_told-1.given.1 in
+    let start = c.before.before.before.before.before.before.before in
+    let told = ap beside_batch c.in-Nothing.is in
     let x = start.args.x in (
       (λ st h. held_as (ap leaving (left_nothing st x _ told)) h),
-      (λ st h. c.before.before.before.before.put_none.ensures ∙ ap (closing start.args.answer-1.now) (left_nothing st x _ told)),
+      (λ st h. c.put_none.ensures ∙ ap (closing start.args.answer.now) (left_nothing st x _ told)),
     )
 
 enum_told-in-Zero : tie.Need-enum_told-in-Zero
@@ -62,11 +62,11 @@ shape_of-answer-in-Zero c = search rules
 
 returns-in-Zero : tie.Need-returns-in-Zero
 returns-in-Zero c =
-    let start = c.before.before.before.before.before.before.before.before.before.before.before.before.before in
-    let told = ap beside_batch c.before.before.before.before.before.enum_told-in-Zero-1.given.1 in
+    let start = c.before.before.before.before.before.before.before.before.before.before.before.before in
+    let told = ap beside_batch c.in-Zero.is in
     let x = start.args.x in (
-      (λ st h. held_as (ap leaving (left_zero st x _ told _ refl)) (simp (to_z-of_z (raw start)) at (c.before.before.key_zero.ensures st h))),
-      (λ st h. c.before.before.before.before.before.before.before.before.before.put_none.ensures ∙ ap (closing start.args.answer-1.now) (left_zero st x _ told _ refl)),
+      (λ st h. held_as (ap leaving (left_zero st x _ told _ refl)) (simp (to_z-of_z (raw start)) at (c.key_zero.ensures st h))),
+      (λ st h. c.put_none.ensures ∙ ap (closing start.args.answer.now) (left_zero st x _ told _ refl)),
     )
 
 enum_told-in-Tare : tie.Need-enum_told-in-Tare
@@ -83,11 +83,11 @@ shape_of-answer-in-Tare c = search rules
 
 returns-in-Tare : tie.Need-returns-in-Tare
 returns-in-Tare c =
-    let start = c.before.before.before.before.before.before.before.before.before.before.before.before.before in
-    let told = ap beside_batch c.before.before.before.before.before.enum_told-in-Tare-1.given.1 in
+    let start = c.before.before.before.before.before.before.before.before.before.before.before.before in
+    let told = ap beside_batch c.in-Tare.is in
     let x = start.args.x in (
-      (λ st h. held_as (ap leaving (left_tare st x _ told _ refl)) (simp (to_z-of_z (gross start)) at (c.before.before.put_tare.ensures st h))),
-      (λ st h. c.before.before.before.before.before.before.before.before.before.put_none.ensures ∙ ap (closing start.args.answer-1.now) (left_tare st x _ told _ refl)),
+      (λ st h. held_as (ap leaving (left_tare st x _ told _ refl)) (simp (to_z-of_z (gross start)) at (c.put_tare.ensures st h))),
+      (λ st h. c.put_none.ensures ∙ ap (closing start.args.answer.now) (left_tare st x _ told _ refl)),
     )
 
 enum_told-in-TareClear : tie.Need-enum_told-in-TareClear
@@ -104,11 +104,11 @@ shape_of-answer-in-TareClear c = search rules
 
 returns-in-TareClear : tie.Need-returns-in-TareClear
 returns-in-TareClear c =
-    let start = c.before.before.before.before.before.before.before.before.before.before.before.before in
-    let told = ap beside_batch c.before.before.before.before.enum_told-in-TareClear-1.given.1 in
+    let start = c.before.before.before.before.before.before.before.before.before.before.before in
+    let told = ap beside_batch c.in-TareClear.is in
     let x = start.args.x in (
-      (λ st h. held_as (ap leaving (left_tare_clear st x _ told _ refl)) (c.before.before.put_tare-in-TareClear.ensures st h)),
-      (λ st h. c.before.before.before.before.before.before.before.before.put_none.ensures ∙ ap (closing start.args.answer-1.now) (left_tare_clear st x _ told _ refl)),
+      (λ st h. held_as (ap leaving (left_tare_clear st x _ told _ refl)) (c.put_tare-in-TareClear.ensures st h)),
+      (λ st h. c.put_none.ensures ∙ ap (closing start.args.answer.now) (left_tare_clear st x _ told _ refl)),
     )
 
 enum_told-in-Start : tie.Need-enum_told-in-Start
@@ -119,11 +119,11 @@ shape_of-answer-in-Start c = search rules
 
 returns-in-Start : tie.Need-returns-in-Start
 returns-in-Start c =
-    let start = c.before.before.before.before.before.before.before.before in
-    let told = ap beside_batch c.enum_told-in-Start-1.given.1 in
+    let start = c.before.before.before.before.before.before.before in
+    let told = ap beside_batch c.in-Start.is in
     let x = start.args.x in (
       (λ st h. held_as (ap leaving (left_nothing st x _ told)) h),
-      (λ st h. c.before.before.before.before.put_none.ensures ∙ ap (closing start.args.answer-1.now) (left_nothing st x _ told)),
+      (λ st h. c.put_none.ensures ∙ ap (closing start.args.answer.now) (left_nothing st x _ told)),
     )
 
 enum_told-in-Stop : tie.Need-enum_told-in-Stop
@@ -134,11 +134,11 @@ shape_of-answer-in-Stop c = search rules
 
 returns-in-Stop : tie.Need-returns-in-Stop
 returns-in-Stop c =
-    let start = c.before.before.before.before.before.before.before.before in
-    let told = ap beside_batch c.enum_told-in-Stop-1.given.1 in
+    let start = c.before.before.before.before.before.before.before in
+    let told = ap beside_batch c.in-Stop.is in
     let x = start.args.x in (
       (λ st h. held_as (ap leaving (left_nothing st x _ told)) h),
-      (λ st h. c.before.before.before.before.put_none.ensures ∙ ap (closing start.args.answer-1.now) (left_nothing st x _ told)),
+      (λ st h. c.put_none.ensures ∙ ap (closing start.args.answer.now) (left_nothing st x _ told)),
     )
 
 enum_told-in-Set : tie.Need-enum_told-in-Set
@@ -149,11 +149,11 @@ shape_of-answer-in-Set c = search rules
 
 returns-in-Set : tie.Need-returns-in-Set
 returns-in-Set c =
-    let start = c.before.before.before.before.before.before.before.before in
-    let told = ap beside_batch c.enum_told-in-Set-1.given.1 in
+    let start = c.before.before.before.before.before.before.before in
+    let told = ap beside_batch c.in-Set.is in
     let x = start.args.x in (
       (λ st h. held_as (ap leaving (left_nothing st x _ told)) h),
-      (λ st h. c.before.before.before.before.put_none.ensures ∙ ap (closing start.args.answer-1.now) (left_nothing st x _ told)),
+      (λ st h. c.put_none.ensures ∙ ap (closing start.args.answer.now) (left_nothing st x _ told)),
     )
 
 enum_told-in-TotalClear : tie.Need-enum_told-in-TotalClear
@@ -173,11 +173,11 @@ shape_of-answer-in-TotalClear c = search rules
 
 returns-in-TotalClear : tie.Need-returns-in-TotalClear
 returns-in-TotalClear c =
-    let start = c.before.before.before.before.before.before.before.before.before.before.before.before.before in
-    let told = ap beside_batch c.before.before.before.before.before.enum_told-in-TotalClear-1.given.1 in
+    let start = c.before.before.before.before.before.before.before.before.before.before.before.before in
+    let told = ap beside_batch c.in-TotalClear.is in
     let x = start.args.x in (
-      (λ st h. held_as (ap leaving (left_total_clear st x _ told _ c.before.before.before.clear_totals.ensures)) (c.before.before.put_totals.ensures.0 st h)),
-      (λ st h. c.before.before.before.before.before.before.before.before.before.put_none.ensures ∙ ap (closing start.args.answer-1.now) (left_total_clear st x _ told _ c.before.before.before.clear_totals.ensures)),
+      (λ st h. held_as (ap leaving (left_total_clear st x _ told _ c.clear_totals.ensures)) (c.put_totals.ensures.0 st h)),
+      (λ st h. c.put_none.ensures ∙ ap (closing start.args.answer.now) (left_total_clear st x _ told _ c.clear_totals.ensures)),
     )
 
 enum_told-in-Undo : tie.Need-enum_told-in-Undo
@@ -194,11 +194,11 @@ shape_of-answer-in-Undo c = search rules
 
 returns-in-Undo : tie.Need-returns-in-Undo
 returns-in-Undo c =
-    let start = c.before.before.before.before.before.before.before.before.before.before.before.before in
-    let told = ap beside_batch c.before.before.before.before.enum_told-in-Undo-1.given.1 in
+    let start = c.before.before.before.before.before.before.before.before.before.before.before in
+    let told = ap beside_batch c.in-Undo.is in
     let x = start.args.x in (
-      (λ st h. held_as (ap leaving (left_undo st x _ told _ refl)) (c.before.before.take_back.ensures st h)),
-      (λ st h. c.before.before.before.before.before.before.before.before.put_none.ensures ∙ ap (closing start.args.answer-1.now) (left_undo st x _ told _ refl)),
+      (λ st h. held_as (ap leaving (left_undo st x _ told _ refl)) (c.take_back.ensures st h)),
+      (λ st h. c.put_none.ensures ∙ ap (closing start.args.answer.now) (left_undo st x _ told _ refl)),
     )
 
 enum_told-in-ShowGross : tie.Need-enum_told-in-ShowGross
@@ -215,11 +215,11 @@ shape_of-answer-in-ShowGross c = search rules
 
 returns-in-ShowGross : tie.Need-returns-in-ShowGross
 returns-in-ShowGross c =
-    let start = c.before.before.before.before.before.before.before.before.before.before.before.before in
-    let told = ap beside_batch c.before.before.before.before.enum_told-in-ShowGross-1.given.1 in
+    let start = c.before.before.before.before.before.before.before.before.before.before.before in
+    let told = ap beside_batch c.in-ShowGross.is in
     let x = start.args.x in (
-      (λ st h. held_as (ap leaving (left_gross st x _ told)) (c.before.before.show.ensures st h)),
-      (λ st h. c.before.before.before.before.before.before.before.before.put_none.ensures ∙ ap (closing start.args.answer-1.now) (left_gross st x _ told)),
+      (λ st h. held_as (ap leaving (left_gross st x _ told)) (c.show.ensures st h)),
+      (λ st h. c.put_none.ensures ∙ ap (closing start.args.answer.now) (left_gross st x _ told)),
     )
 
 enum_told-in-ShowNet : tie.Need-enum_told-in-ShowNet
@@ -236,11 +236,11 @@ shape_of-answer-in-ShowNet c = search rules
 
 returns-in-ShowNet : tie.Need-returns-in-ShowNet
 returns-in-ShowNet c =
-    let start = c.before.before.before.before.before.before.before.before.before.before.before.before in
-    let told = ap beside_batch c.before.before.before.before.enum_told-in-ShowNet-1.given.1 in
+    let start = c.before.before.before.before.before.before.before.before.before.before.before in
+    let told = ap beside_batch c.in-ShowNet.is in
     let x = start.args.x in (
-      (λ st h. held_as (ap leaving (left_net st x _ told)) (c.before.before.show-in-ShowNet.ensures st h)),
-      (λ st h. c.before.before.before.before.before.before.before.before.put_none.ensures ∙ ap (closing start.args.answer-1.now) (left_net st x _ told)),
+      (λ st h. held_as (ap leaving (left_net st x _ told)) (c.show-in-ShowNet.ensures st h)),
+      (λ st h. c.put_none.ensures ∙ ap (closing start.args.answer.now) (left_net st x _ told)),
     )
 
 enum_told-in-DayClose : tie.Need-enum_told-in-DayClose
@@ -257,11 +257,11 @@ shape_of-answer-in-DayClose c = search rules
 
 returns-in-DayClose : tie.Need-returns-in-DayClose
 returns-in-DayClose c =
-    let start = c.before.before.before.before.before.before.before.before.before.before.before.before.before.before.before in
-    let told = ap beside_batch c.before.before.before.before.before.before.before.enum_told-in-DayClose-1.given.1 in
+    let start = c.before.before.before.before.before.before.before.before.before.before.before.before.before.before in
+    let told = ap beside_batch c.in-DayClose.is in
     let x = start.args.x in (
-      (λ st h. held_as (ap leaving (left_close st x _ told _ refl)) (c.before.before.before.before.close.ensures.0 st h)),
-      (λ st h. c.before.before.before.before.close.ensures.1 st h ∙ ap (closed_put (closed.Day st.book)) c.before.before.before.before.before.before.before.before.before.before.before.put_none.ensures ∙ over_none closed.Nothing (closed.Day st.book) start.args.answer-1.now ∙ ap (closing start.args.answer-1.now) (left_close st x _ told _ refl)),
+      (λ st h. held_as (ap leaving (left_close st x _ told _ refl)) (c.close.ensures.0 st h)),
+      (λ st h. c.close.ensures.1 st h ∙ ap (closed_put (closed.Day st.book)) c.put_none.ensures ∙ over_none closed.Nothing (closed.Day st.book) start.args.answer.now ∙ ap (closing start.args.answer.now) (left_close st x _ told _ refl)),
     )
 
 enum_told-in-Discharge : tie.Need-enum_told-in-Discharge
@@ -272,11 +272,11 @@ shape_of-answer-in-Discharge c = search rules
 
 returns-in-Discharge : tie.Need-returns-in-Discharge
 returns-in-Discharge c =
-    let start = c.before.before.before.before.before.before.before.before in
-    let told = ap beside_batch c.enum_told-in-Discharge-1.given.1 in
+    let start = c.before.before.before.before.before.before.before in
+    let told = ap beside_batch c.in-Discharge.is in
     let x = start.args.x in (
       (λ st h. held_as (ap leaving (left_nothing st x _ told)) h),
-      (λ st h. c.before.before.before.before.put_none.ensures ∙ ap (closing start.args.answer-1.now) (left_nothing st x _ told)),
+      (λ st h. c.put_none.ensures ∙ ap (closing start.args.answer.now) (left_nothing st x _ told)),
     )
 
 pub settle_spec : {M : Type 1} → statement M
@@ -284,7 +284,7 @@ settle_spec =
     tie.close
     (tie.spec
     put_none-requires
-    enum_told
+    enum_told-1
     shape_of-answer-in-Nothing
     returns-in-Nothing
     enum_told-in-Zero

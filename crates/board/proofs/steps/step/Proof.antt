@@ -11,7 +11,7 @@ use Rattle.board.proofs.steps.step.Statement.{statement}
 use Rattle.board.proofs.steps.step.Tie as tie
 
 returns-then-held : tie.Need-returns-then-held
-returns-then-held c st h = held_as (λ i. pick_state (sym c.if-held.true i) st (stepped_of c.before.before.args.s st c.before.before.args.x)) h
+returns-then-held c st h = held_as (λ i. pick_state (sym c.if-held.true i) st (stepped_of c.args.s st c.args.x)) h
 
 sequence_at-sequence-requires : tie.Need-sequence_at-sequence-requires
 sequence_at-sequence-requires c κs = search rules
@@ -24,8 +24,8 @@ shape_of-state-then-is_idle c = search rules
 
 returns-then-is_idle : tie.Need-returns-then-is_idle
 returns-then-is_idle c st h =
-    let q = read_part (λ (t : State). t.sequence) c.before.before.sequence_at-sequence.ensures h in
-    held_as (stepped_on _ st _ _ _ c.before.before.before.before.if-held.false (step_idle _ st _ (sym (c.before.is_idle.ensures ∙ (λ i. idle_of (q i).stage)) ∙ c.if-is_idle.true))) h
+    let q = read_part (λ (t : State). t.sequence) c.sequence_at-sequence.ensures h in
+    held_as (stepped_on _ st _ _ _ c.if1.false (step_idle _ st _ (sym (c.is_idle.ensures ∙ (λ i. idle_of (q i).stage)) ∙ c.if-is_idle.true))) h
 
 go_on-requires : tie.Need-go_on-requires
 go_on-requires c κs = search rules
@@ -35,9 +35,9 @@ shape_of-state c = search rules
 
 returns : tie.Need-returns
 returns c st h =
-    let q = read_part (λ (t : State). t.sequence) c.before.before.before.before.before.before.sequence_at-sequence.ensures h in
-    let runs = sym (c.before.before.before.before.before.is_idle.ensures ∙ (λ i. idle_of (q i).stage)) ∙ c.before.before.before.before.if-is_idle.false in
-    held_as (stepped_on _ st _ _ _ c.before.before.before.before.before.before.before.before.if-held.false refl) (c.before.before.go_on.ensures st h q runs)
+    let q = read_part (λ (t : State). t.sequence) c.sequence_at-sequence.ensures h in
+    let runs = sym (c.is_idle.ensures ∙ (λ i. idle_of (q i).stage)) ∙ c.if-is_idle.false in
+    held_as (stepped_on _ st _ _ _ c.if1.false refl) (c.go_on.ensures st h q runs)
 
 pub step_spec : {M : Type 1} → statement M
 step_spec =

@@ -19,8 +19,8 @@ shape_of-state-then-is_idle c = search rules
 
 returns-then-is_idle : tie.Need-returns-then-is_idle
 returns-then-is_idle c st h =
-    let q = read_part (λ (t : State). t.sequence) c.before.before.sequence_at-sequence.ensures h in
-    held_as (stopped_idle st (sym (c.before.is_idle.ensures ∙ (λ i. idle_of (q i).stage)) ∙ c.if-is_idle.true)) h
+    let q = read_part (λ (t : State). t.sequence) c.sequence_at-sequence.ensures h in
+    held_as (stopped_idle st (sym (c.is_idle.ensures ∙ (λ i. idle_of (q i).stage)) ∙ c.if-is_idle.true)) h
 
 stop_sequence-requires : tie.Need-stop_sequence-requires
 stop_sequence-requires c κs = search rules
@@ -36,10 +36,10 @@ shape_of-state c = search rules
 
 returns : tie.Need-returns
 returns c st h =
-    let q = read_part (λ (t : State). t.sequence) c.before.before.before.before.before.before.before.before.before.before.before.sequence_at-sequence.ensures h in
-    let runs = sym (c.before.before.before.before.before.before.before.before.before.before.is_idle.ensures ∙ (λ i. idle_of (q i).stage)) ∙ c.before.before.before.before.before.before.before.before.before.if-is_idle.false in
-    held_as (stopped_runs st runs _ _ _ (c.before.before.before.before.before.before.before.stop_sequence.ensures ∙ ap stop_sequence q) refl refl)
-    (c.before.before.bring_in.ensures _ (c.before.before.before.before.before.before.put_sequence.ensures.0 st h))
+    let q = read_part (λ (t : State). t.sequence) c.sequence_at-sequence.ensures h in
+    let runs = sym (c.is_idle.ensures ∙ (λ i. idle_of (q i).stage)) ∙ c.if-is_idle.false in
+    held_as (stopped_runs st runs _ _ _ (c.stop_sequence.ensures ∙ ap stop_sequence q) refl refl)
+    (c.bring_in.ensures _ (c.put_sequence.ensures.0 st h))
 
 pub stop_spec : {M : Type 1} → statement M
 stop_spec =

@@ -22,9 +22,9 @@ shape_of-state-then-is_idle c = search rules
 
 returns-then-is_idle : tie.Need-returns-then-is_idle
 returns-then-is_idle c st h =
-    let q = read_part (λ (t : State). t.sequence) c.before.before.before.before.before.before.sequence_at-sequence.ensures h in
-    let idle = sym (c.before.before.before.before.before.is_idle.ensures ∙ (λ i. idle_of (q i).stage)) ∙ c.before.before.before.before.if-is_idle.true in
-    held_as (stored_idle st _ idle) (c.before.before.put_setpoints.ensures.0 st h)
+    let q = read_part (λ (t : State). t.sequence) c.sequence_at-sequence.ensures h in
+    let idle = sym (c.is_idle.ensures ∙ (λ i. idle_of (q i).stage)) ∙ c.if-is_idle.true in
+    held_as (stored_idle st _ idle) (c.put_setpoints.ensures.0 st h)
 
 put_waiting-requires : tie.Need-put_waiting-requires
 put_waiting-requires c κs = search rules
@@ -34,9 +34,9 @@ shape_of-state c = search rules
 
 returns : tie.Need-returns
 returns c st h =
-    let q = read_part (λ (t : State). t.sequence) c.before.before.before.before.before.before.sequence_at-sequence.ensures h in
-    let runs = sym (c.before.before.before.before.before.is_idle.ensures ∙ (λ i. idle_of (q i).stage)) ∙ c.before.before.before.before.if-is_idle.false in
-    held_as (stored_runs st _ runs _ refl) (c.before.before.put_waiting.ensures.0 st h)
+    let q = read_part (λ (t : State). t.sequence) c.sequence_at-sequence.ensures h in
+    let runs = sym (c.is_idle.ensures ∙ (λ i. idle_of (q i).stage)) ∙ c.if-is_idle.false in
+    held_as (stored_runs st _ runs _ refl) (c.put_waiting.ensures.0 st h)
 
 pub store_spec : {M : Type 1} → statement M
 store_spec =

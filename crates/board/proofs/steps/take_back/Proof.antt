@@ -21,7 +21,7 @@ shape_of-state : tie.Need-shape_of-state
 shape_of-state c = search rules
 
 returns : tie.Need-returns
-returns c st h = held_as (λ i. with_totals st ((c.before.before.before.take_back.ensures ∙ ap taken_back (read_part (λ (t : State). t.totals) c.before.before.before.before.before.totals_at-totals.ensures h)) i)) (c.before.before.put_totals.ensures.0 st h)
+returns c st h = held_as (λ i. with_totals st ((c.take_back.ensures ∙ ap taken_back (read_part (λ (t : State). t.totals) c.totals_at-totals.ensures h)) i)) (c.put_totals.ensures.0 st h)
 
 pub take_back_spec : {M : Type 1} → statement M
 take_back_spec =

@@ -30,11 +30,11 @@ shape_of-state c = search rules
 returns : tie.Need-returns
 returns c st h =
     let a = c.before.before.before.before.before.before.before.before.before.before.before.args in
-    let q = read_part (λ (t : State). t.sequence) c.before.before.before.before.before.before.before.before.sequence_at-sequence.ensures h in
-    let w = read_part (λ (t : State). t.weighing) c.before.before.before.before.before.weighing_at-weighing.ensures h in
-    let idle = c.before.before.before.before.before.before.before.is_idle-idle.ensures ∙ (λ i. idle_of (q i).stage) in
-    let e = c.before.before.before.tracked.ensures ∙ (λ i. tracked_of a.s (idle i) a.keyed a.x (w i)) in
-    held_as (λ i. with_weighing st (e i)) (c.before.before.put_weighing.ensures.0 st h)
+    let q = read_part (λ (t : State). t.sequence) c.sequence-at.ensures h in
+    let w = read_part (λ (t : State). t.weighing) c.weighing_at-weighing.ensures h in
+    let idle = c.is-idle.ensures ∙ (λ i. idle_of (q i).stage) in
+    let e = c.tracked.ensures ∙ (λ i. tracked_of a.s (idle i) a.keyed a.x (w i)) in
+    held_as (λ i. with_weighing st (e i)) (c.put_weighing.ensures.0 st h)
 
 pub track_spec : {M : Type 1} → statement M
 track_spec =

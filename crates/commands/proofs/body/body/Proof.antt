@@ -32,7 +32,7 @@ decode-requires c κs = search rules
 
 returns : tie.Need-returns
 unfolding body_of
-returns c = simp (c.decode.ensures, c.before.letters_of.ensures, c.before.before.byte_at-2.ensures, c.before.before.before.byte_at.ensures, le-ltb _ _ c.before.before.before.before.if-line-end.false)
+returns c = simp (c.decode.ensures, c.letters_of.ensures, c.byte_at-2.ensures, c.byte_at.ensures, le-ltb _ _ c.if-line-end.false)
 
 pub body_spec : {M : Type 1} → statement M
 body_spec =

@@ -16,8 +16,8 @@ overflow_cast-end-in-One c = search rules
 sized-requires : tie.Need-sized-requires
 sized-requires c κs = search rules
 
-enum_told : tie.Need-enum_told-1
-enum_told c = search rules
+enum_told-1 : tie.Need-enum_told-1
+enum_told-1 c = search rules
 
 overflow_add-at : tie.Need-overflow_add-at
 overflow_add-at c = search rules
@@ -36,15 +36,15 @@ enum_told-in-Other c = search rules
 
 returns-in-One : tie.Need-returns-in-One
 unfolding decode_of
-returns-in-One c = simp (c.sized.ensures, c.before.before.letters-1.given.1)
+returns-in-One c = simp (c.sized.ensures, c.in-One.is)
 
 returns-in-Set : tie.Need-returns-in-Set
 unfolding decode_of
-returns-in-Set c = simp (c.sized-in-Set.ensures, c.before.set_of.ensures, c.before.before.fields.ensures, c.before.before.before.enum_told-1.given.1)
+returns-in-Set c = simp (c.sized-in-Set.ensures, c.set_of.ensures, c.fields.ensures, c.in-Set.is)
 
 returns-in-Other : tie.Need-returns-in-Other
 unfolding decode_of
-returns-in-Other c = simp c.enum_told-in-Other-1.given.1
+returns-in-Other c = simp c.in-Other.is
 
 pub decode_spec : {M : Type 1} → statement M
 decode_spec =
@@ -54,7 +54,7 @@ decode_spec =
     enum_known-letters
     overflow_cast-end-in-One
     sized-requires
-    enum_told
+    enum_told-1
     overflow_add-at
     fields-requires
     set_of-requires

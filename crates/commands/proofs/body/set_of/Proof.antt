@@ -10,7 +10,7 @@ enum_told-1 : tie.Need-enum_told-1
 enum_told-1 c = search rules
 
 returns-in-Points : tie.Need-returns-in-Points
-returns-in-Points c = simp c.before.read-1.given.1
+returns-in-Points c = simp c.in-Points.is
 
 returns-in-Wrong : tie.Need-returns-in-Wrong
 returns-in-Wrong c = search rules

@@ -13,7 +13,7 @@ use Rattle.commands.proofs.fields.field.Tie as tie
 returns-then-line-lt-FIELD_WIDTH : tie.Need-returns-then-line-lt-FIELD_WIDTH
 unfolding field_of
 returns-then-line-lt-FIELD_WIDTH c =
-    let short : length c.before.before.args.line.now < c.before.before.args.at + 6 = omega arith in simp (lt-leb _ _ short)
+    let short : length c.args.line.now < c.args.at + 6 = omega arith in simp (lt-leb _ _ short)
 
 overflow_sub-line : tie.Need-overflow_sub-line
 overflow_sub-line c = search rules
@@ -43,7 +43,7 @@ returns-then-at-line c =
 returns-else-at-line : tie.Need-returns-else-at-line
 unfolding field_of
 returns-else-at-line c =
-    let short : length c.before.before.before.args.line.now < c.before.before.before.args.at + 6 = omega arith in simp (lt-leb _ _ short)
+    let short : length c.args.line.now < c.args.at + 6 = omega arith in simp (lt-leb _ _ short)
 
 pub field_spec : {M : Type 1} → statement M
 field_spec =

@@ -63,7 +63,7 @@ seven-requires c κs = search rules
 
 returns : tie.Need-returns
 unfolding fields_of
-returns c = simp (c.seven.ensures, c.before.field-7.ensures, c.before.before.field-6.ensures, c.before.before.before.field-5.ensures, c.before.before.before.before.field-4.ensures, c.before.before.before.before.before.field-3.ensures, c.before.before.before.before.before.before.field-2.ensures, c.before.before.before.before.before.before.before.field.ensures)
+returns c = simp (c.seven.ensures, c.field-7.ensures, c.field-6.ensures, c.field-5.ensures, c.field-4.ensures, c.field-3.ensures, c.field-2.ensures, c.field.ensures)
 
 pub fields_spec : {M : Type 1} → statement M
 fields_spec =

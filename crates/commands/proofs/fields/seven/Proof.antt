@@ -19,7 +19,7 @@ enum_told-in_default-ff : tie.Need-enum_told-in_default-ff
 enum_told-in_default-ff c = search rules
 
 returns-in_default-ff : tie.Need-returns-in_default-ff
-returns-in_default-ff c = simp (c.enum_told-in_default-ff-1.given.1, c.before.before.before.f-1.given.1)
+returns-in_default-ff c = simp (c.in_default-ff.is, c.in-Number.is)
 
 enum_known-p : tie.Need-enum_known-p
 enum_known-p c = search rules
@@ -28,7 +28,7 @@ enum_told-in_default-p : tie.Need-enum_told-in_default-p
 enum_told-in_default-p c = search rules
 
 returns-in_default-p : tie.Need-returns-in_default-p
-returns-in_default-p c = simp (c.enum_told-in_default-p-1.given.1, c.before.before.before.ff-1.given.1, c.before.before.before.before.before.before.f-1.given.1)
+returns-in_default-p c = simp (c.in_default-p.is, c.in-Number-ff.is, c.in-Number.is)
 
 enum_known-op : tie.Need-enum_known-op
 enum_known-op c = search rules
@@ -37,7 +37,7 @@ enum_told-in_default-op : tie.Need-enum_told-in_default-op
 enum_told-in_default-op c = search rules
 
 returns-in_default-op : tie.Need-returns-in_default-op
-returns-in_default-op c = simp (c.enum_told-in_default-op-1.given.1, c.before.before.before.p-1.given.1, c.before.before.before.before.before.before.ff-1.given.1, c.before.before.before.before.before.before.before.before.before.f-1.given.1)
+returns-in_default-op c = simp (c.in_default-op.is, c.in-Number-p.is, c.in-Number-ff.is, c.in-Number.is)
 
 enum_known-over : tie.Need-enum_known-over
 enum_known-over c = search rules
@@ -46,7 +46,7 @@ enum_told-in_default-over : tie.Need-enum_told-in_default-over
 enum_told-in_default-over c = search rules
 
 returns-in_default-over : tie.Need-returns-in_default-over
-returns-in_default-over c = simp (c.enum_told-in_default-over-1.given.1, c.before.before.before.op-1.given.1, c.before.before.before.before.before.before.p-1.given.1, c.before.before.before.before.before.before.before.before.before.ff-1.given.1, c.before.before.before.before.before.before.before.before.before.before.before.before.f-1.given.1)
+returns-in_default-over c = simp (c.in_default-over.is, c.in-Number-op.is, c.in-Number-p.is, c.in-Number-ff.is, c.in-Number.is)
 
 enum_known-under : tie.Need-enum_known-under
 enum_known-under c = search rules
@@ -55,7 +55,7 @@ enum_told-in_default-under : tie.Need-enum_told-in_default-under
 enum_told-in_default-under c = search rules
 
 returns-in_default-under : tie.Need-returns-in_default-under
-returns-in_default-under c = simp (c.enum_told-in_default-under-1.given.1, c.before.before.before.over-1.given.1, c.before.before.before.before.before.before.op-1.given.1, c.before.before.before.before.before.before.before.before.before.p-1.given.1, c.before.before.before.before.before.before.before.before.before.before.before.before.ff-1.given.1, c.before.before.before.before.before.before.before.before.before.before.before.before.before.before.before.f-1.given.1)
+returns-in_default-under c = simp (c.in_default-under.is, c.in-Number-over.is, c.in-Number-op.is, c.in-Number-p.is, c.in-Number-ff.is, c.in-Number.is)
 
 enum_known-near : tie.Need-enum_known-near
 enum_known-near c = search rules
@@ -64,10 +64,10 @@ enum_told-in_default-near : tie.Need-enum_told-in_default-near
 enum_told-in_default-near c = search rules
 
 returns-in_default-near : tie.Need-returns-in_default-near
-returns-in_default-near c = simp (c.enum_told-in_default-near-1.given.1, c.before.before.before.under-1.given.1, c.before.before.before.before.before.before.over-1.given.1, c.before.before.before.before.before.before.before.before.before.op-1.given.1, c.before.before.before.before.before.before.before.before.before.before.before.before.p-1.given.1, c.before.before.before.before.before.before.before.before.before.before.before.before.before.before.before.ff-1.given.1, c.before.before.before.before.before.before.before.before.before.before.before.before.before.before.before.before.before.before.f-1.given.1)
+returns-in_default-near c = simp (c.in_default-near.is, c.in-Number-under.is, c.in-Number-over.is, c.in-Number-op.is, c.in-Number-p.is, c.in-Number-ff.is, c.in-Number.is)
 
 returns : tie.Need-returns
-returns c = simp (c.before.near-1.given.1, c.before.before.before.before.under-1.given.1, c.before.before.before.before.before.before.before.over-1.given.1, c.before.before.before.before.before.before.before.before.before.before.op-1.given.1, c.before.before.before.before.before.before.before.before.before.before.before.before.before.p-1.given.1, c.before.before.before.before.before.before.before.before.before.before.before.before.before.before.before.before.ff-1.given.1, c.before.before.before.before.before.before.before.before.before.before.before.before.before.before.before.before.before.before.before.f-1.given.1)
+returns c = simp (c.in-Number-near.is, c.in-Number-under.is, c.in-Number-over.is, c.in-Number-op.is, c.in-Number-p.is, c.in-Number-ff.is, c.in-Number.is)
 
 pub seven_spec : {M : Type 1} → statement M
 seven_spec =

@@ -21,98 +21,98 @@ letters_for-requires c κs = search rules
 
 returns-then-pair-letters_for : tie.Need-returns-then-pair-letters_for
 unfolding letters_of
-returns-then-pair-letters_for c = sym (ap named (c.if-pair-letters_for.true ∙ c.before.letters_for.ensures))
+returns-then-pair-letters_for c = sym (ap named (c.if-pair-letters_for.true ∙ c.letters_for.ensures))
 
 letters_for-requires-2 : tie.Need-letters_for-requires-2
 letters_for-requires-2 c κs = search rules
 
 returns-then-pair-letters_for-2 : tie.Need-returns-then-pair-letters_for-2
 unfolding letters_of
-returns-then-pair-letters_for-2 c = sym (ap named (c.if-pair-letters_for-2.true ∙ c.before.letters_for-2.ensures))
+returns-then-pair-letters_for-2 c = sym (ap named (c.if-pair-letters_for-2.true ∙ c.letters_for-2.ensures))
 
 letters_for-requires-3 : tie.Need-letters_for-requires-3
 letters_for-requires-3 c κs = search rules
 
 returns-then-pair-letters_for-3 : tie.Need-returns-then-pair-letters_for-3
 unfolding letters_of
-returns-then-pair-letters_for-3 c = sym (ap named (c.if-pair-letters_for-3.true ∙ c.before.letters_for-3.ensures))
+returns-then-pair-letters_for-3 c = sym (ap named (c.if-pair-letters_for-3.true ∙ c.letters_for-3.ensures))
 
 letters_for-requires-4 : tie.Need-letters_for-requires-4
 letters_for-requires-4 c κs = search rules
 
 returns-then-pair-letters_for-4 : tie.Need-returns-then-pair-letters_for-4
 unfolding letters_of
-returns-then-pair-letters_for-4 c = sym (ap named (c.if-pair-letters_for-4.true ∙ c.before.letters_for-4.ensures))
+returns-then-pair-letters_for-4 c = sym (ap named (c.if-pair-letters_for-4.true ∙ c.letters_for-4.ensures))
 
 letters_for-requires-5 : tie.Need-letters_for-requires-5
 letters_for-requires-5 c κs = search rules
 
 returns-then-pair-letters_for-5 : tie.Need-returns-then-pair-letters_for-5
 unfolding letters_of
-returns-then-pair-letters_for-5 c = sym (ap named (c.if-pair-letters_for-5.true ∙ c.before.letters_for-5.ensures))
+returns-then-pair-letters_for-5 c = sym (ap named (c.if-pair-letters_for-5.true ∙ c.letters_for-5.ensures))
 
 letters_for-requires-6 : tie.Need-letters_for-requires-6
 letters_for-requires-6 c κs = search rules
 
 returns-then-pair-letters_for-6 : tie.Need-returns-then-pair-letters_for-6
 unfolding letters_of
-returns-then-pair-letters_for-6 c = sym (ap named (c.if-pair-letters_for-6.true ∙ c.before.letters_for-6.ensures))
+returns-then-pair-letters_for-6 c = sym (ap named (c.if-pair-letters_for-6.true ∙ c.letters_for-6.ensures))
 
 letters_for-requires-7 : tie.Need-letters_for-requires-7
 letters_for-requires-7 c κs = search rules
 
 returns-then-pair-letters_for-7 : tie.Need-returns-then-pair-letters_for-7
 unfolding letters_of
-returns-then-pair-letters_for-7 c = sym (ap named (c.if-pair-letters_for-7.true ∙ c.before.letters_for-7.ensures))
+returns-then-pair-letters_for-7 c = sym (ap named (c.if-pair-letters_for-7.true ∙ c.letters_for-7.ensures))
 
 letters_for-requires-8 : tie.Need-letters_for-requires-8
 letters_for-requires-8 c κs = search rules
 
 returns-then-pair-letters_for-8 : tie.Need-returns-then-pair-letters_for-8
 unfolding letters_of
-returns-then-pair-letters_for-8 c = sym (ap named (c.if-pair-letters_for-8.true ∙ c.before.letters_for-8.ensures))
+returns-then-pair-letters_for-8 c = sym (ap named (c.if-pair-letters_for-8.true ∙ c.letters_for-8.ensures))
 
 letters_for-requires-9 : tie.Need-letters_for-requires-9
 letters_for-requires-9 c κs = search rules
 
 returns-then-pair-letters_for-9 : tie.Need-returns-then-pair-letters_for-9
 unfolding letters_of
-returns-then-pair-letters_for-9 c = sym (ap named (c.if-pair-letters_for-9.true ∙ c.before.letters_for-9.ensures))
+returns-then-pair-letters_for-9 c = sym (ap named (c.if-pair-letters_for-9.true ∙ c.letters_for-9.ensures))
 
 letters_for-requires-10 : tie.Need-letters_for-requires-10
 letters_for-requires-10 c κs = search rules
 
 returns-then-pair-letters_for-10 : tie.Need-returns-then-pair-letters_for-10
 unfolding letters_of
-returns-then-pair-letters_for-10 c = sym (ap named (c.if-pair-letters_for-10.true ∙ c.before.letters_for-10.ensures))
+returns-then-pair-letters_for-10 c = sym (ap named (c.if-pair-letters_for-10.true ∙ c.letters_for-10.ensures))
 
 letters_for-requires-11 : tie.Need-letters_for-requires-11
 letters_for-requires-11 c κs = search rules
 
 returns-then-pair-letters_for-11 : tie.Need-returns-then-pair-letters_for-11
 unfolding letters_of
-returns-then-pair-letters_for-11 c = sym (ap named (c.if-pair-letters_for-11.true ∙ c.before.letters_for-11.ensures))
+returns-then-pair-letters_for-11 c = sym (ap named (c.if-pair-letters_for-11.true ∙ c.letters_for-11.ensures))
 
 letters_for-requires-12 : tie.Need-letters_for-requires-12
 letters_for-requires-12 c κs = search rules
 
 returns-then-pair-letters_for-12 : tie.Need-returns-then-pair-letters_for-12
 unfolding letters_of
-returns-then-pair-letters_for-12 c = sym (ap named (c.if-pair-letters_for-12.true ∙ c.before.letters_for-12.ensures))
+returns-then-pair-letters_for-12 c = sym (ap named (c.if-pair-letters_for-12.true ∙ c.letters_for-12.ensures))
 
 letters_for-requires-13 : tie.Need-letters_for-requires-13
 letters_for-requires-13 c κs = search rules
 
 returns-then-pair-letters_for-13 : tie.Need-returns-then-pair-letters_for-13
 unfolding letters_of
-returns-then-pair-letters_for-13 c = sym (ap named (c.if-pair-letters_for-13.true ∙ c.before.letters_for-13.ensures))
+returns-then-pair-letters_for-13 c = sym (ap named (c.if-pair-letters_for-13.true ∙ c.letters_for-13.ensures))
 
 letters_for-requires-14 : tie.Need-letters_for-requires-14
 letters_for-requires-14 c κs = search rules
 
 returns-then-pair-letters_for-14 : tie.Need-returns-then-pair-letters_for-14
 unfolding letters_of
-returns-then-pair-letters_for-14 c = sym (ap named (c.if-pair-letters_for-14.true ∙ c.before.letters_for-14.ensures))
+returns-then-pair-letters_for-14 c = sym (ap named (c.if-pair-letters_for-14.true ∙ c.letters_for-14.ensures))
 
 returns-then-pair-eq-SET_LETTERS : tie.Need-returns-then-pair-eq-SET_LETTERS
 unfolding letters_of
@@ -143,20 +143,20 @@ returns c =
     let e3 = e4.before.before in
     let e2 = e3.before.before in
     let e1 = e2.before.before in
-    past_word _ _ _ _ _ _ e1.if-pair-letters_for.false e1.before.letters_for.ensures
-    (past_word _ _ _ _ _ _ e2.if-pair-letters_for-2.false e2.before.letters_for-2.ensures
-    (past_word _ _ _ _ _ _ e3.if-pair-letters_for-3.false e3.before.letters_for-3.ensures
-    (past_word _ _ _ _ _ _ e4.if-pair-letters_for-4.false e4.before.letters_for-4.ensures
-    (past_word _ _ _ _ _ _ e5.if-pair-letters_for-5.false e5.before.letters_for-5.ensures
-    (past_word _ _ _ _ _ _ e6.if-pair-letters_for-6.false e6.before.letters_for-6.ensures
-    (past_word _ _ _ _ _ _ e7.if-pair-letters_for-7.false e7.before.letters_for-7.ensures
-    (past_word _ _ _ _ _ _ e8.if-pair-letters_for-8.false e8.before.letters_for-8.ensures
-    (past_word _ _ _ _ _ _ e9.if-pair-letters_for-9.false e9.before.letters_for-9.ensures
-    (past_word _ _ _ _ _ _ e10.if-pair-letters_for-10.false e10.before.letters_for-10.ensures
-    (past_word _ _ _ _ _ _ e11.if-pair-letters_for-11.false e11.before.letters_for-11.ensures
-    (past_word _ _ _ _ _ _ e12.if-pair-letters_for-12.false e12.before.letters_for-12.ensures
-    (past_word _ _ _ _ _ _ e13.if-pair-letters_for-13.false e13.before.letters_for-13.ensures
-    (past_word _ _ _ _ _ _ e14.if-pair-letters_for-14.false e14.before.letters_for-14.ensures
+    past_word _ _ _ _ _ _ e1.if-pair-letters_for.false e1.letters_for.ensures
+    (past_word _ _ _ _ _ _ e2.if-pair-letters_for-2.false e2.letters_for-2.ensures
+    (past_word _ _ _ _ _ _ e3.if-pair-letters_for-3.false e3.letters_for-3.ensures
+    (past_word _ _ _ _ _ _ e4.if-pair-letters_for-4.false e4.letters_for-4.ensures
+    (past_word _ _ _ _ _ _ e5.if-pair-letters_for-5.false e5.letters_for-5.ensures
+    (past_word _ _ _ _ _ _ e6.if-pair-letters_for-6.false e6.letters_for-6.ensures
+    (past_word _ _ _ _ _ _ e7.if-pair-letters_for-7.false e7.letters_for-7.ensures
+    (past_word _ _ _ _ _ _ e8.if-pair-letters_for-8.false e8.letters_for-8.ensures
+    (past_word _ _ _ _ _ _ e9.if-pair-letters_for-9.false e9.letters_for-9.ensures
+    (past_word _ _ _ _ _ _ e10.if-pair-letters_for-10.false e10.letters_for-10.ensures
+    (past_word _ _ _ _ _ _ e11.if-pair-letters_for-11.false e11.letters_for-11.ensures
+    (past_word _ _ _ _ _ _ e12.if-pair-letters_for-12.false e12.letters_for-12.ensures
+    (past_word _ _ _ _ _ _ e13.if-pair-letters_for-13.false e13.letters_for-13.ensures
+    (past_word _ _ _ _ _ _ e14.if-pair-letters_for-14.false e14.letters_for-14.ensures
     (past _ _ _ _ _ c.if-pair-eq-SET_LETTERS.false refl))))))))))))))
 
 pub letters_of_spec : {M : Type 1} → statement M

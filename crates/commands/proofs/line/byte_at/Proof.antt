@@ -11,7 +11,7 @@ returns-then-i-s : tie.Need-returns-then-i-s
 returns-then-i-s c = search rules
 
 returns-else-i-s : tie.Need-returns-else-i-s
-returns-else-i-s c = rw (get_or-eq_default c.before.args.s.now 0 c.if-i-s.false)
+returns-else-i-s c = rw (get_or-eq_default c.args.s.now 0 c.if-i-s.false)
 
 pub byte_at_spec : {M : Type 1} → statement M
 byte_at_spec = tie.close (tie.spec bounds-s-i returns-then-i-s returns-else-i-s)

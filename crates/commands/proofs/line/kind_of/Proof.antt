@@ -18,8 +18,8 @@ line_end-requires c κs = search rules
 enum_known-n : tie.Need-enum_known-n
 enum_known-n c = search rules
 
-enum_told : tie.Need-enum_told-1
-enum_told c = search rules
+enum_told-1 : tie.Need-enum_told-1
+enum_told-1 c = search rules
 
 enum_told-in-Missing : tie.Need-enum_told-in-Missing
 enum_told-in-Missing c = search rules
@@ -30,19 +30,19 @@ numbered b r e = (e, ap kind_number e ∙ kind_number_lem b)
 
 returns-then-n-eq0 : tie.Need-returns-then-n-eq0
 unfolding kind_of
-returns-then-n-eq0 c = numbered c.before.before.before.before.before.before.args.buf.now _ (simp (sym c.before.before.before.before.line_end.ensures ∙ c.before.before.n-1.given.1, eq-eqb _ _ c.if-n-eq0.true))
+returns-then-n-eq0 c = numbered c.args.buf.now _ (simp (sym c.line_end.ensures ∙ c.in-At.is, eq-eqb _ _ c.if-n-eq0.true))
 
 returns-else-n-eq0 : tie.Need-returns-else-n-eq0
 unfolding kind_of
-returns-else-n-eq0 c = numbered c.before.before.before.before.before.before.args.buf.now _ (simp (sym c.before.before.before.before.line_end.ensures ∙ c.before.before.n-1.given.1, ne_eqb _ _ c.if-n-eq0.false))
+returns-else-n-eq0 c = numbered c.args.buf.now _ (simp (sym c.line_end.ensures ∙ c.in-At.is, ne_eqb _ _ c.if-n-eq0.false))
 
 returns-in-Beyond : tie.Need-returns-in-Beyond
 unfolding kind_of
-returns-in-Beyond c = numbered c.before.before.before.before.args.buf.now _ (simp (sym c.before.before.line_end.ensures ∙ c.enum_told-1.given.1))
+returns-in-Beyond c = numbered c.args.buf.now _ (simp (sym c.line_end.ensures ∙ c.in-Beyond.is))
 
 returns-in-Missing : tie.Need-returns-in-Missing
 unfolding kind_of
-returns-in-Missing c = numbered c.before.before.before.before.args.buf.now _ (simp (sym c.before.before.line_end.ensures ∙ c.enum_told-in-Missing-1.given.1))
+returns-in-Missing c = numbered c.args.buf.now _ (simp (sym c.line_end.ensures ∙ c.in-Missing.is))
 
 pub kind_of_spec : {M : Type 1} → statement M
 kind_of_spec =
@@ -50,7 +50,7 @@ kind_of_spec =
     (tie.spec
     line_end-requires
     enum_known-n
-    enum_told
+    enum_told-1
     enum_told-in-Missing
     returns-then-n-eq0
     returns-else-n-eq0

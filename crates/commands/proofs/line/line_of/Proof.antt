@@ -16,15 +16,15 @@ enum_known-n : tie.Need-enum_known-n
 enum_known-n c = search rules
 
 -- the bytes before the end that was found
-long : (c : tie.In-At-2) → length_at (line_end_of c.before.before.before.before.args.buf.now) ≡ c.n-1.given.0.0
-long c = ended c.before.before.before.before.args.buf.now _ _ c.before.before.line_end.ensures c.n-1.given.1
+long : (c : tie.In-At) → length_at (line_end_of c.args.buf.now) ≡ c.in-At.n
+long c = ended c.args.buf.now _ _ c.line_end.ensures c.in-At.is
 
 slice_bounds-result-end : tie.Need-slice_bounds-result-end
 slice_bounds-result-end c =
-    sym (length-take-le _ _ (subst (λ (k : ℕ). k ≤ length c.before.before.before.before.before.before.args.buf.now) (long c.before.before) (within c.before.before.before.before.before.before.args.buf.now)))
+    sym (length-take-le _ _ (subst (λ (k : ℕ). k ≤ length c.before.before.before.before.before.before.args.buf.now) (long c) (within c.before.before.before.before.before.before.args.buf.now)))
 
-enum_told : tie.Need-enum_told-1
-enum_told c = search rules
+enum_told-1 : tie.Need-enum_told-1
+enum_told-1 c = search rules
 
 slice_bounds-result-end-in-Beyond : tie.Need-slice_bounds-result-end-in-Beyond
 slice_bounds-result-end-in-Beyond c = search rules
@@ -37,15 +37,15 @@ slice_bounds-result-end-in-Missing c = search rules
 
 returns-in-At : tie.Need-returns-in-At
 unfolding line_of
-returns-in-At c = (ap (λ (k : ℕ). take k c.before.before.before.before.before.before.args.buf.now) (sym (long c.before.before)), refl)
+returns-in-At c = (ap (λ (k : ℕ). take k c.before.before.before.before.before.before.args.buf.now) (sym (long c)), refl)
 
 returns-in-Beyond : tie.Need-returns-in-Beyond
 unfolding line_of
-returns-in-Beyond c = (simp (sym c.before.before.before.line_end.ensures ∙ c.before.enum_told-1.given.1), refl)
+returns-in-Beyond c = (simp (sym c.line-end.ensures ∙ c.enum_told.given.1), refl)
 
 returns-in-Missing : tie.Need-returns-in-Missing
 unfolding line_of
-returns-in-Missing c = (simp (sym c.before.before.before.line_end.ensures ∙ c.before.enum_told-in-Missing-1.given.1), refl)
+returns-in-Missing c = (simp (sym c.line-end.ensures ∙ c.enum-told2.given.1), refl)
 
 pub line_of_spec : {M : Type 1} → statement M
 line_of_spec =
@@ -54,7 +54,7 @@ line_of_spec =
     line_end-requires
     enum_known-n
     slice_bounds-result-end
-    enum_told
+    enum_told-1
     slice_bounds-result-end-in-Beyond
     enum_told-in-Missing
     slice_bounds-result-end-in-Missing

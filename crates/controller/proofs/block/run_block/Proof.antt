@@ -36,130 +36,130 @@ use Rattle.controller.proofs.block.run_block.Tie as tie
 fold_more : {A B : Type 0} (f : B → A → B) (b : B) (l : List A) (i : ℕ) (d : A) → i < length l → foldl f b (take (i + 1) l) ≡ f (foldl f b (take i l)) (get_or l i d)
 fold_more f b l i d h = rw (add-one, take-suc l i d h, foldl-append)
 
-abbrev invariant_loop : tie.invariant-loop-i
-invariant_loop s st₀ counts contact points mode i₀ st i =
+abbrev invariant-loop-i : tie.invariant-loop-i
+invariant-loop-i s st₀ counts contact points mode i₀ st i =
     (i ≤ length counts) × (st ≡ foldl (count_in s contact) st₀ (take i counts))
-    × (idle_of st.sequence-1.stage ≡ false → st.setpoints ≡ st₀.setpoints)
+    × (idle_of st.sequence.stage ≡ false → st.setpoints ≡ st₀.setpoints)
 
-abbrev decreases_loop : tie.decreases-loop-i
-decreases_loop s st₀ counts contact points mode i₀ st i = length counts - i
+abbrev decreases-loop-i : tie.decreases-loop-i
+decreases-loop-i s st₀ counts contact points mode i₀ st i = length counts - i
 
 -- the block's number beside the block
 numbered : (s : Settings) (st : State) (counts : List ℤ) (contact : Bool) (r : Blocked) → r ≡ block_of s st counts contact
     → (r ≡ block_of s st counts contact) × (block_number r.answer ≡ block_due counts)
 numbered s st counts contact r e = (e, ap (λ (b : Blocked). block_number b.answer) e ∙ block_number_lem s st counts contact)
 
-returns-then-counts-gt-BLOCK_LIMIT : tie.Need-returns-then-counts-gt-BLOCK_LIMIT invariant_loop decreases_loop
+returns-then-counts-gt-BLOCK_LIMIT : tie.Need-returns-then-counts-gt-BLOCK_LIMIT invariant-loop-i decreases-loop-i
 unfolding block_of
 returns-then-counts-gt-BLOCK_LIMIT c =
-    let a = c.before.args in
+    let a = c.args in
     numbered a.s a.st a.counts.now a.contact _ (simp (lt-leb (length a.counts.now) block_limit (omega arith)))
 
-loop-i-init : tie.Need-loop-i-init invariant_loop decreases_loop
+loop-i-init : tie.Need-loop-i-init invariant-loop-i decreases-loop-i
 loop-i-init c = (omega arith, refl, λ e. refl)
 
-offset_bounds-counts-i : tie.Need-offset_bounds-counts-i invariant_loop decreases_loop
+offset_bounds-counts-i : tie.Need-offset_bounds-counts-i invariant-loop-i decreases-loop-i
 offset_bounds-counts-i c = search rules
 
-bounds-counts-i : tie.Need-bounds-counts-i invariant_loop decreases_loop
+bounds-counts-i : tie.Need-bounds-counts-i invariant-loop-i decreases-loop-i
 bounds-counts-i c = search rules
 
-raw_of-raw-requires : tie.Need-raw_of-raw-requires invariant_loop decreases_loop
+raw_of-raw-requires : tie.Need-raw_of-raw-requires invariant-loop-i decreases-loop-i
 raw_of-raw-requires c κs = search rules
 
-steadied-steadied-requires : tie.Need-steadied-steadied-requires invariant_loop decreases_loop
+steadied-steadied-requires : tie.Need-steadied-steadied-requires invariant-loop-i decreases-loop-i
 steadied-steadied-requires c κs = search rules
 
-book_tick-st-requires : tie.Need-book_tick-st-requires invariant_loop decreases_loop
+book_tick-st-requires : tie.Need-book_tick-st-requires invariant-loop-i decreases-loop-i
 book_tick-st-requires c κs = search rules
 
-weigh-x-requires : tie.Need-weigh-x-requires invariant_loop decreases_loop
+weigh-x-requires : tie.Need-weigh-x-requires invariant-loop-i decreases-loop-i
 weigh-x-requires c κs = search rules
 
-is_idle-idle-requires : tie.Need-is_idle-idle-requires invariant_loop decreases_loop
+is_idle-idle-requires : tie.Need-is_idle-idle-requires invariant-loop-i decreases-loop-i
 is_idle-idle-requires c κs = search rules
 
-tracked-st-requires : tie.Need-tracked-st-requires invariant_loop decreases_loop
+tracked-st-requires : tie.Need-tracked-st-requires invariant-loop-i decreases-loop-i
 tracked-st-requires c κs = search rules
 
-compared-v-requires : tie.Need-compared-v-requires invariant_loop decreases_loop
+compared-v-requires : tie.Need-compared-v-requires invariant-loop-i decreases-loop-i
 compared-v-requires c κs = search rules
 
-is_fit-fit-requires : tie.Need-is_fit-fit-requires invariant_loop decreases_loop
+is_fit-fit-requires : tie.Need-is_fit-fit-requires invariant-loop-i decreases-loop-i
 is_fit-fit-requires c κs = search rules
 
-advance-a-requires : tie.Need-advance-a-requires invariant_loop decreases_loop
+advance-a-requires : tie.Need-advance-a-requires invariant-loop-i decreases-loop-i
 advance-a-requires c κs = search rules
 
-is_idle-requires : tie.Need-is_idle-requires invariant_loop decreases_loop
+is_idle-requires : tie.Need-is_idle-requires invariant-loop-i decreases-loop-i
 is_idle-requires c κs = search rules
 
-booked_sequence-st-requires : tie.Need-booked_sequence-st-requires invariant_loop decreases_loop
+booked_sequence-st-requires : tie.Need-booked_sequence-st-requires invariant-loop-i decreases-loop-i
 booked_sequence-st-requires c κs = search rules
 
-booked_totals-st-requires : tie.Need-booked_totals-st-requires invariant_loop decreases_loop
+booked_totals-st-requires : tie.Need-booked_totals-st-requires invariant-loop-i decreases-loop-i
 booked_totals-st-requires c κs = search rules
 
-latest-st-requires : tie.Need-latest-st-requires invariant_loop decreases_loop
+latest-st-requires : tie.Need-latest-st-requires invariant-loop-i decreases-loop-i
 latest-st-requires c κs = search rules
 
-none_waiting-st-requires : tie.Need-none_waiting-st-requires invariant_loop decreases_loop
+none_waiting-st-requires : tie.Need-none_waiting-st-requires invariant-loop-i decreases-loop-i
 none_waiting-st-requires c κs = search rules
 
 -- the loop's state and place, before this count
-abbrev at : tie.After-tracked-st invariant_loop decreases_loop → tie.At-loop-i invariant_loop decreases_loop
+abbrev at : tie.After-tracked-st invariant-loop-i decreases-loop-i → tie.At-loop-i invariant-loop-i decreases-loop-i
 at t = t.before.before.before.before.before.before.before.before.before.before
 
-abbrev start : tie.After-tracked-st invariant_loop decreases_loop → tie.Start invariant_loop decreases_loop
+abbrev start : tie.After-tracked-st invariant-loop-i decreases-loop-i → tie.Start invariant-loop-i decreases-loop-i
 start t = (at t).before.before.before.before
 
 -- there is a count at that place, and a block has few
-within : (t : tie.After-tracked-st invariant_loop decreases_loop) → (at t).loop-i.i < length (start t).args.counts.now
-within t = t.before.before.before.before.before.before.before.before.before.loop-i-test.true
+within : (t : tie.After-tracked-st invariant-loop-i decreases-loop-i) → (at t).loop.i < length (start t).args.counts.now
+within t = t.before.before.before.before.before.before.before.before.before.loop-test.true
 
-few : (t : tie.After-tracked-st invariant_loop decreases_loop) → length (start t).args.counts.now ≤ block_limit
-few t = (at t).before.before.before.if-counts-gt-BLOCK_LIMIT.false
+few : (t : tie.After-tracked-st invariant-loop-i decreases-loop-i) → length (start t).args.counts.now ≤ block_limit
+few t = (at t).before.before.before.if1.false
 
-abbrev count : tie.After-tracked-st invariant_loop decreases_loop → ℤ
-count t = get_or (start t).args.counts.now (at t).loop-i.i (pos 0)
+abbrev count : tie.After-tracked-st invariant-loop-i decreases-loop-i → ℤ
+count t = get_or (start t).args.counts.now (at t).loop.i (pos 0)
 
-last : (q : tie.After-struct_told-1 invariant_loop decreases_loop) → SFits w32 q.before.before.before.before.loop-i.st.book.last
-last q = search (sfits_of, q.struct_told-1.given.0)
+last : (q : tie.After-struct_told-1 invariant-loop-i decreases-loop-i) → SFits w32 q.before.before.before.before.loop.st.book.last
+last q = search (sfits_of, q.struct_told.given.0)
 
-parts : (t : tie.After-tracked-st invariant_loop decreases_loop) →
+parts : (t : tie.After-tracked-st invariant-loop-i decreases-loop-i) →
     let i = t.before in
     let w = i.before.before in
     let q = w.before.before in
     let r = q.before.before in
     let a = (start t).args in
-    Parts a.s a.contact (at t).loop-i.st (count t) r.raw_of-raw.result q.steadied-steadied.result w.before.book_tick-st.result w.weigh-x.result
-    i.is_idle-idle.result t.tracked-st.result
+    Parts a.s a.contact (at t).loop.st (count t) r.raw_of.result q.steadied.result w.before.book-tick.result w.weigh.result
+    i.is-idle.result t.tracked.result
 parts t =
     let i = t.before in
     let w = i.before.before in
     let q = w.before.before in
     let r = q.before.before in
     record {
-      raws = simp (to_z-of_z {w = w32} {z = count t} (record { sfits = r.before.count-1.given })) at r.raw_of-raw.ensures;
-      steadied = simp (to_z-of_z (last q.before)) at q.steadied-steadied.ensures;
-      booked = w.before.book_tick-st.ensures;
-      weighed = w.weigh-x.ensures;
-      idles = i.is_idle-idle.ensures;
-      tracked = t.tracked-st.ensures;
+      raws = simp (to_z-of_z {w = w32} {z = count t} (record { sfits = r.before.count.given })) at r.raw_of.ensures;
+      steadied = simp (to_z-of_z (last q.before)) at q.steadied.ensures;
+      booked = w.before.book-tick.ensures;
+      weighed = w.weigh.ensures;
+      idles = i.is-idle.ensures;
+      tracked = t.tracked.ensures;
     }
 
 -- step 6, where its ways meet; outside 00 the setpoints are still those that the block began with
-stepped : (j : tie.Joined-not-idle invariant_loop decreases_loop) →
+stepped : (j : tie.Joined-not-idle invariant-loop-i decreases-loop-i) →
     let t = j.before in
     let w = t.before.before.before in
     let q = w.before.before in
-    j.if-not-idle.st ≡ stepped_of (start t).args.s (parts_of (at t).loop-i.st w.before.book_tick-st.result q.steadied-steadied.result t.tracked-st.result) w.weigh-x.result
+    j.if2.st ≡ stepped_of (start t).args.s (parts_of (at t).loop.st w.before.book-tick.result q.steadied.result t.tracked.result) w.weigh.result
 stepped j =
     let t = j.before in
     let p = parts t in
-    let same : idle_of (at t).loop-i.st.sequence-1.stage ≡ false → (start t).args.st.setpoints ≡ (at t).loop-i.st.setpoints
-    = λ runs. sym ((at t).loop-i.invariant.2 runs) in
-    let x = t.before.before.before.weigh-x.result in
+    let same : idle_of (at t).loop.st.sequence.stage ≡ false → (start t).args.st.setpoints ≡ (at t).loop.st.setpoints
+    = λ runs. sym ((at t).loop.invariant.2 runs) in
+    let x = t.before.before.before.weigh.result in
     ⊎_elim
     (λ f.
     let v = (be (got {w = w64} f.1.result f.1.ok) f.1.ensures).read in
@@ -182,51 +182,51 @@ stepped j =
     (let gross : SFits w32 x.gross = search (sfits_of, o.3.given.1.1.1.1.1.0) in simp (to_z-of_z gross) at o.4.ensures)
     (sym o.6.ensures ∙ o.7.left))
     (λ n. n.1 ∙ step_idle _ _ _ (sym p.idles ∙ not-false _ n.0.left)))
-    j.if-not-idle.branch
+    j.if2.branch
 
-counted : (j : tie.Joined-not-idle invariant_loop decreases_loop) →
+counted : (j : tie.Joined-not-idle invariant-loop-i decreases-loop-i) →
     let t = j.before in
-    j.if-not-idle.st ≡ count_in (start t).args.s (start t).args.contact (at t).loop-i.st (count t)
+    j.if2.st ≡ count_in (start t).args.s (start t).args.contact (at t).loop.st (count t)
 unfolding count_in
 counted j = stepped j ∙ parts_next (parts j.before)
 
-overflow_add-i : tie.Need-overflow_add-i invariant_loop decreases_loop
+overflow_add-i : tie.Need-overflow_add-i invariant-loop-i decreases-loop-i
 overflow_add-i c = record { fits = omega (arith, within c.before, few c.before) }
 
-loop-i-smaller : tie.Need-loop-i-smaller invariant_loop decreases_loop
+loop-i-smaller : tie.Need-loop-i-smaller invariant-loop-i decreases-loop-i
 loop-i-smaller c = omega (arith, within c.before)
 
-loop-i-preserved : tie.Need-loop-i-preserved invariant_loop decreases_loop
+loop-i-preserved : tie.Need-loop-i-preserved invariant-loop-i decreases-loop-i
 loop-i-preserved c =
     let t = c.before in
     let a = (start t).args in
     let h = within t in (
       omega (arith, h),
       counted c
-          ∙ ap (λ (st : State). count_in a.s a.contact st (count t)) (at t).loop-i.invariant.1
-          ∙ sym (fold_more (count_in a.s a.contact) a.st a.counts.now (at t).loop-i.i (pos 0) h),
+          ∙ ap (λ (st : State). count_in a.s a.contact st (count t)) (at t).loop.invariant.1
+          ∙ sym (fold_more (count_in a.s a.contact) a.st a.counts.now (at t).loop.i (pos 0) h),
       λ e.
           let same = stepped c in
-          let runs = step_runs a.s _ _ (sym (ap (λ (st : State). idle_of st.sequence-1.stage) same) ∙ e) in
-          ap (λ (st : State). st.setpoints) same ∙ runs.1 ∙ (at t).loop-i.invariant.2 runs.0,
+          let runs = step_runs a.s _ _ (sym (ap (λ (st : State). idle_of st.sequence.stage) same) ∙ e) in
+          ap (λ (st : State). st.setpoints) same ∙ runs.1 ∙ (at t).loop.invariant.2 runs.0,
     )
 
-returns : tie.Need-returns invariant_loop decreases_loop
+returns : tie.Need-returns invariant-loop-i decreases-loop-i
 unfolding block_of
 returns c =
     let l = c.before in
-    let a = l.before.before.before.before.args in
+    let a = l.args in
     let counts = a.counts.now in
     let full : length counts ≤ l.loop-i.i = omega arith in
     numbered a.s a.st counts a.contact _
-    (simp (le-leb (length counts) block_limit l.before.before.before.if-counts-gt-BLOCK_LIMIT.false, l.loop-i.invariant.1, take_all l.loop-i.i counts full))
+    (simp (le-leb (length counts) block_limit l.if-counts-gt-BLOCK_LIMIT.false, l.loop-i.invariant.1, take_all l.loop-i.i counts full))
 
 pub run_block_spec : {M : Type 1} → statement M
 run_block_spec =
     tie.close
     (tie.spec
-    invariant_loop
-    decreases_loop
+    invariant-loop-i
+    decreases-loop-i
     returns-then-counts-gt-BLOCK_LIMIT
     loop-i-init
     offset_bounds-counts-i

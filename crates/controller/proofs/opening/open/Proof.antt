@@ -10,7 +10,7 @@ open-requires : tie.Need-open-requires
 open-requires c κs = search rules
 
 returns : tie.Need-returns
-returns c = let e = c.open.ensures in (e, ap opening_number e ∙ opening_number_lem c.before.args.g)
+returns c = let e = c.open.ensures in (e, ap opening_number e ∙ opening_number_lem c.args.g)
 
 pub open_spec : {M : Type 1} → statement M
 open_spec = tie.close (tie.spec open-requires returns)

@@ -24,10 +24,10 @@ unfolding open_state
 returns c =
     simp (
       c.clear_totals.ensures,
-      c.before.open_sequence.ensures,
-      c.before.before.none_waiting.ensures,
-      c.before.before.before.open_setpoints.ensures,
-      c.before.before.before.before.open_book.ensures,
+      c.open_sequence.ensures,
+      c.none_waiting.ensures,
+      c.open_setpoints.ensures,
+      c.open_book.ensures,
     )
 
 pub open_state_spec : {M : Type 1} → statement M

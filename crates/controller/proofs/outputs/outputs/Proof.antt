@@ -34,17 +34,17 @@ unfolding outputs_of
 returns c =
     let f = c.before.before.before.before.before in
     let d = f.before in
-    let a = d.before.before.before.before.args in
-    let shown = (be (got {w = w32} d.displayed-shown.result d.displayed-shown.type-inv) d.displayed-shown.ensures).read in
+    let a = d.args in
+    let shown = (be (got {w = w32} d.displayed-shown.result d.displayed-shown.type_inv) d.displayed-shown.ensures).read in
     λ i. record {
       outcome = a.outcome;
-      reading = c.before.before.before.before.reading.ensures i;
-      stage = a.st.sequence-1.stage;
-      gates = c.before.before.before.open_gates.ensures i;
-      judgement = a.st.sequence-1.judgement;
-      error = a.st.sequence-1.error;
-      near = c.before.before.is_near.ensures i;
-      full = c.before.is_full.ensures i;
+      reading = c.reading.ensures i;
+      stage = a.st.sequence.stage;
+      gates = c.open_gates.ensures i;
+      judgement = a.st.sequence.judgement;
+      error = a.st.sequence.error;
+      near = c.is_near.ensures i;
+      full = c.is_full.ensures i;
       analog = (c.analog_value.ensures.0 ∙ (λ j. analog_of a.s.board a.s.scale (shown j) (f.is_fit-fit.ensures j))) i;
       closed = a.closed;
     }

@@ -72,8 +72,8 @@ parts : (t : tie.After-tracked-st) →
     let w = i.before.before in
     let q = w.before.before in
     let r = q.before.before in
-    let a = r.before.args in
-    Parts a.s a.contact a.st a.count r.raw_of-raw.result q.steadied-steadied.result w.before.book_tick-st.result w.weigh-x.result
+    let a = r.args in
+    Parts a.s a.contact a.st a.count r.raw_of-raw.result q.steadied-steadied.result w.book_tick-st.result w.weigh-x.result
     i.is_idle-idle.result t.tracked-st.result
 parts t =
     let i = t.before in
@@ -81,9 +81,9 @@ parts t =
     let q = w.before.before in
     let r = q.before.before in
     record {
-      raws = simp (to_z-of_z r.before.ranges.count) at r.raw_of-raw.ensures;
+      raws = simp (to_z-of_z r.ranges.count) at r.raw_of-raw.ensures;
       steadied = simp (to_z-of_z (last r.before)) at q.steadied-steadied.ensures;
-      booked = w.before.book_tick-st.ensures;
+      booked = w.book_tick-st.ensures;
       weighed = w.weigh-x.ensures;
       idles = i.is_idle-idle.ensures;
       tracked = t.tracked-st.ensures;
@@ -94,11 +94,11 @@ stepped : (j : tie.Joined-not-idle) →
     let t = j.before in
     let w = t.before.before.before in
     let q = w.before.before in
-    let a = q.before.before.before.args in
-    j.if-not-idle.st ≡ stepped_of a.s (parts_of a.st w.before.book_tick-st.result q.steadied-steadied.result t.tracked-st.result) w.weigh-x.result
+    let a = q.args in
+    j.if-not-idle.st ≡ stepped_of a.s (parts_of a.st w.book_tick-st.result q.steadied-steadied.result t.tracked-st.result) w.weigh-x.result
 stepped j =
     let p = parts j.before in
-    let x = j.before.before.before.before.weigh-x.result in
+    let x = j.weigh-x.result in
     ⊎_elim
     (λ f.
     let v = (be (got {w = w64} f.2.result f.2.ok) f.2.ensures).read in
@@ -125,7 +125,7 @@ stepped j =
 
 returns : tie.Need-returns
 returns c =
-    let a = c.before.before.before.before.before.before.before.before.before.before.args in
+    let a = c.args in
     let ticked = parts_tick (parts c.before.before) _ _ (stepped c.before) c.outputs.ensures in (
       ticked,
       ap (λ (t : Ticked). outcome_number t.answer.outcome) ticked ∙ unasked_number a.s a.st a.count a.contact,

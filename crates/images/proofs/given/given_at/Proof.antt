@@ -92,33 +92,33 @@ returns : tie.Need-returns
 unfolding given_at get_all
 returns c =
     (λ i. record {
-      zero = ((got {w = w32} _ c.before.before.before.before.before.before.before.before.before.before.before.before.before.before.before.before.before.before.before.before.before.before.before.before.i32_at-zero.type-inv).read ∙ c.before.before.before.before.before.before.before.before.before.before.before.before.before.before.before.before.before.before.before.before.before.before.before.before.i32_at-zero.ensures) i;
-      span = ((got {w = w32} _ c.before.before.before.before.before.before.before.before.before.before.before.before.before.before.before.before.before.before.before.before.before.before.before.i32_at-span.type-inv).read ∙ c.before.before.before.before.before.before.before.before.before.before.before.before.before.before.before.before.before.before.before.before.before.before.before.i32_at-span.ensures) i;
-      capacity = ((got {w = w32} _ c.before.before.before.before.before.before.before.before.before.before.before.before.before.before.before.before.before.before.before.before.before.before.i32_at-capacity.type-inv).read ∙ c.before.before.before.before.before.before.before.before.before.before.before.before.before.before.before.before.before.before.before.before.before.before.i32_at-capacity.ensures) i;
-      weight = ((got {w = w32} _ c.before.before.before.before.before.before.before.before.before.before.before.before.before.before.before.before.before.before.before.before.before.i32_at-weight.type-inv).read ∙ c.before.before.before.before.before.before.before.before.before.before.before.before.before.before.before.before.before.before.before.before.before.i32_at-weight.ensures) i;
-      division = ((got {w = w32} _ c.before.before.before.before.before.before.before.before.before.before.before.before.before.before.before.before.before.before.before.before.i32_at-division.type-inv).read ∙ c.before.before.before.before.before.before.before.before.before.before.before.before.before.before.before.before.before.before.before.before.i32_at-division.ensures) i;
-      zeroing = ((got {w = w32} _ c.before.before.before.before.before.before.before.before.before.before.before.before.before.before.before.before.before.before.before.i32_at-zeroing.type-inv).read ∙ c.before.before.before.before.before.before.before.before.before.before.before.before.before.before.before.before.before.before.before.i32_at-zeroing.ensures) i;
-      tracktime = ((got {w = w32} _ c.before.before.before.before.before.before.before.before.before.before.before.before.before.before.before.before.before.before.i32_at-tracktime.type-inv).read ∙ c.before.before.before.before.before.before.before.before.before.before.before.before.before.before.before.before.before.before.i32_at-tracktime.ensures) i;
-      trackwidth = ((got {w = w32} _ c.before.before.before.before.before.before.before.before.before.before.before.before.before.before.before.before.before.i32_at-trackwidth.type-inv).read ∙ c.before.before.before.before.before.before.before.before.before.before.before.before.before.before.before.before.before.i32_at-trackwidth.ensures) i;
-      allowance = ((got {w = w32} _ c.before.before.before.before.before.before.before.before.before.before.before.before.before.before.before.before.i32_at-allowance.type-inv).read ∙ c.before.before.before.before.before.before.before.before.before.before.before.before.before.before.before.before.i32_at-allowance.ensures) i;
-      stabletime = ((got {w = w32} _ c.before.before.before.before.before.before.before.before.before.before.before.before.before.before.before.i32_at-stabletime.type-inv).read ∙ c.before.before.before.before.before.before.before.before.before.before.before.before.before.before.before.i32_at-stabletime.ensures) i;
-      stablewidth = ((got {w = w32} _ c.before.before.before.before.before.before.before.before.before.before.before.before.before.before.i32_at-stablewidth.type-inv).read ∙ c.before.before.before.before.before.before.before.before.before.before.before.before.before.before.i32_at-stablewidth.ensures) i;
-      mode = ((got {w = w32} _ c.before.before.before.before.before.before.before.before.before.before.before.before.before.i32_at-mode.type-inv).read ∙ c.before.before.before.before.before.before.before.before.before.before.before.before.before.i32_at-mode.ensures) i;
-      start = ((got {w = w32} _ c.before.before.before.before.before.before.before.before.before.before.before.before.i32_at-start.type-inv).read ∙ c.before.before.before.before.before.before.before.before.before.before.before.before.i32_at-start.ensures) i;
-      large = ((got {w = w32} _ c.before.before.before.before.before.before.before.before.before.before.before.i32_at-large.type-inv).read ∙ c.before.before.before.before.before.before.before.before.before.before.before.i32_at-large.ensures) i;
-      medium = ((got {w = w32} _ c.before.before.before.before.before.before.before.before.before.before.i32_at-medium.type-inv).read ∙ c.before.before.before.before.before.before.before.before.before.before.i32_at-medium.ensures) i;
-      small = ((got {w = w32} _ c.before.before.before.before.before.before.before.before.before.i32_at-small.type-inv).read ∙ c.before.before.before.before.before.before.before.before.before.i32_at-small.ensures) i;
-      judge = ((got {w = w32} _ c.before.before.before.before.before.before.before.before.i32_at-judge.type-inv).read ∙ c.before.before.before.before.before.before.before.before.i32_at-judge.ensures) i;
-      flow = ((got {w = w32} _ c.before.before.before.before.before.before.before.i32_at-flow.type-inv).read ∙ c.before.before.before.before.before.before.before.i32_at-flow.ensures) i;
-      address = ((got {w = w32} _ c.before.before.before.before.before.before.i32_at-address.type-inv).read ∙ c.before.before.before.before.before.before.i32_at-address.ensures) i;
-      board = ((got {w = w32} _ c.before.before.before.before.before.i32_at-board.type-inv).read ∙ c.before.before.before.before.before.i32_at-board.ensures) i;
-      low = ((got {w = w32} _ c.before.before.before.before.i32_at-low.type-inv).read ∙ c.before.before.before.before.i32_at-low.ensures) i;
-      high = ((got {w = w32} _ c.before.before.before.i32_at-high.type-inv).read ∙ c.before.before.before.i32_at-high.ensures) i;
-      dischargestart = ((got {w = w32} _ c.before.before.i32_at-dischargestart.type-inv).read ∙ c.before.before.i32_at-dischargestart.ensures) i;
-      dischargeend = ((got {w = w32} _ c.before.i32_at-dischargeend.type-inv).read ∙ c.before.i32_at-dischargeend.ensures) i;
-      dischargelimit = ((got {w = w32} _ c.i32_at-dischargelimit.type-inv).read ∙ c.i32_at-dischargelimit.ensures) i;
+      zero = ((got {w = w32} _ c.i32_at-zero.type_inv).read ∙ c.i32_at-zero.ensures) i;
+      span = ((got {w = w32} _ c.i32_at-span.type_inv).read ∙ c.i32_at-span.ensures) i;
+      capacity = ((got {w = w32} _ c.i32_at-capacity.type_inv).read ∙ c.i32_at-capacity.ensures) i;
+      weight = ((got {w = w32} _ c.i32_at-weight.type_inv).read ∙ c.i32_at-weight.ensures) i;
+      division = ((got {w = w32} _ c.i32_at-division.type_inv).read ∙ c.i32_at-division.ensures) i;
+      zeroing = ((got {w = w32} _ c.i32_at-zeroing.type_inv).read ∙ c.i32_at-zeroing.ensures) i;
+      tracktime = ((got {w = w32} _ c.i32_at-tracktime.type_inv).read ∙ c.i32_at-tracktime.ensures) i;
+      trackwidth = ((got {w = w32} _ c.i32_at-trackwidth.type_inv).read ∙ c.i32_at-trackwidth.ensures) i;
+      allowance = ((got {w = w32} _ c.i32_at-allowance.type_inv).read ∙ c.i32_at-allowance.ensures) i;
+      stabletime = ((got {w = w32} _ c.i32_at-stabletime.type_inv).read ∙ c.i32_at-stabletime.ensures) i;
+      stablewidth = ((got {w = w32} _ c.i32_at-stablewidth.type_inv).read ∙ c.i32_at-stablewidth.ensures) i;
+      mode = ((got {w = w32} _ c.i32_at-mode.type_inv).read ∙ c.i32_at-mode.ensures) i;
+      start = ((got {w = w32} _ c.i32_at-start.type_inv).read ∙ c.i32_at-start.ensures) i;
+      large = ((got {w = w32} _ c.i32_at-large.type_inv).read ∙ c.i32_at-large.ensures) i;
+      medium = ((got {w = w32} _ c.i32_at-medium.type_inv).read ∙ c.i32_at-medium.ensures) i;
+      small = ((got {w = w32} _ c.i32_at-small.type_inv).read ∙ c.i32_at-small.ensures) i;
+      judge = ((got {w = w32} _ c.i32_at-judge.type_inv).read ∙ c.i32_at-judge.ensures) i;
+      flow = ((got {w = w32} _ c.i32_at-flow.type_inv).read ∙ c.i32_at-flow.ensures) i;
+      address = ((got {w = w32} _ c.i32_at-address.type_inv).read ∙ c.i32_at-address.ensures) i;
+      board = ((got {w = w32} _ c.i32_at-board.type_inv).read ∙ c.i32_at-board.ensures) i;
+      low = ((got {w = w32} _ c.i32_at-low.type_inv).read ∙ c.i32_at-low.ensures) i;
+      high = ((got {w = w32} _ c.i32_at-high.type_inv).read ∙ c.i32_at-high.ensures) i;
+      dischargestart = ((got {w = w32} _ c.i32_at-dischargestart.type_inv).read ∙ c.i32_at-dischargestart.ensures) i;
+      dischargeend = ((got {w = w32} _ c.i32_at-dischargeend.type_inv).read ∙ c.i32_at-dischargeend.ensures) i;
+      dischargelimit = ((got {w = w32} _ c.i32_at-dischargelimit.type_inv).read ∙ c.i32_at-dischargelimit.ensures) i;
     })
-    ∙ ap given_at (sym (of_length given_length _ c.before.before.before.before.before.before.before.before.before.before.before.before.before.before.before.before.before.before.before.before.before.before.before.before.before.if-s-ne-GIVEN_LENGTH.false))
+    ∙ ap given_at (sym (of_length given_length _ c.if-s-ne-GIVEN_LENGTH.false))
 
 pub given_at_spec : {M : Type 1} → statement M
 given_at_spec =

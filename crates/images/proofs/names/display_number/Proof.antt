@@ -4,19 +4,19 @@ use Rattle.images.specs.StateImage.{display_number}
 use Rattle.images.proofs.names.display_number.Statement.{statement}
 use Rattle.images.proofs.names.display_number.Tie as tie
 
-enum_told : tie.Need-enum_told-1
-enum_told c = search rules
+enum_told-1 : tie.Need-enum_told-1
+enum_told-1 c = search rules
 
 enum_told-in-Net : tie.Need-enum_told-in-Net
 enum_told-in-Net c = search rules
 
 returns-in-Gross : tie.Need-returns-in-Gross
 unfolding display_number
-returns-in-Gross c = simp c.enum_told-1.given.1
+returns-in-Gross c = simp c.in-Gross.is
 
 returns-in-Net : tie.Need-returns-in-Net
 unfolding display_number
-returns-in-Net c = simp c.enum_told-in-Net-1.given.1
+returns-in-Net c = simp c.in-Net.is
 
 pub display_number_spec : {M : Type 1} → statement M
-display_number_spec = tie.close (tie.spec enum_told enum_told-in-Net returns-in-Gross returns-in-Net)
+display_number_spec = tie.close (tie.spec enum_told-1 enum_told-in-Net returns-in-Gross returns-in-Net)

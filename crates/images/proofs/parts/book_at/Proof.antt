@@ -43,16 +43,16 @@ returns : tie.Need-returns
 unfolding state_at get_all
 returns c =
     (λ i. record {
-      opening = ((got {w = w32} _ c.before.before.before.before.before.before.before.i32_at-opening.type-inv).read ∙ c.before.before.before.before.before.before.before.i32_at-opening.ensures) i;
-      last = ((got {w = w32} _ c.before.before.before.before.before.before.i32_at-last.type-inv).read ∙ c.before.before.before.before.before.before.i32_at-last.ensures) i;
-      refilled = ((got {w = w64} _ c.before.before.before.before.before.i64_at-refilled.type-inv).read ∙ c.before.before.before.before.before.i64_at-refilled.ensures) i;
-      used = ((got {w = w64} _ c.before.before.before.before.i64_at-used.type-inv).read ∙ c.before.before.before.before.i64_at-used.ensures) i;
-      unbooked = ((got {w = w64} _ c.before.before.before.i64_at-unbooked.type-inv).read ∙ c.before.before.before.i64_at-unbooked.ensures) i;
-      ticks = c.before.before.u32_at-ticks.ensures i;
-      begun = c.before.flag_at-begun.ensures i;
+      opening = ((got {w = w32} _ c.i32_at-opening.type_inv).read ∙ c.i32_at-opening.ensures) i;
+      last = ((got {w = w32} _ c.i32_at-last.type_inv).read ∙ c.i32_at-last.ensures) i;
+      refilled = ((got {w = w64} _ c.i64_at-refilled.type_inv).read ∙ c.i64_at-refilled.ensures) i;
+      used = ((got {w = w64} _ c.i64_at-used.type_inv).read ∙ c.i64_at-used.ensures) i;
+      unbooked = ((got {w = w64} _ c.i64_at-unbooked.type_inv).read ∙ c.i64_at-unbooked.ensures) i;
+      ticks = c.u32_at-ticks.ensures i;
+      begun = c.flag_at-begun.ensures i;
       contact = c.flag_at-contact.ensures i;
     })
-    ∙ ap (λ (b : List ℕ). (state_at b).book) (sym (of_long _ c.before.before.before.before.before.before.before.before.if-s-lt-EARLIER_LENGTH.false))
+    ∙ ap (λ (b : List ℕ). (state_at b).book) (sym (of_long _ c.if-s-lt-EARLIER_LENGTH.false))
 
 pub book_at_spec : {M : Type 1} → statement M
 book_at_spec =

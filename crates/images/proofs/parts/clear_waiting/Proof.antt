@@ -43,15 +43,15 @@ shape_of-s c = search rules
 returns : tie.Need-returns
 unfolding put_all write_tag write_points
 returns c =
-    let e0 = c.before.before.before.before.before.before.before.before.before.before.before.before.before.before.before.before.before.before.before.before.before.before.before.before.before.before.before.before.before.before.put_u8.ensures in
-    let e1 = c.before.before.before.before.before.before.before.before.before.before.before.before.before.before.before.before.before.before.before.before.before.before.before.before.before.before.put_u32.ensures ∙ (λ i. put_be 4 0 (e0 i) 260) in
-    let e2 = c.before.before.before.before.before.before.before.before.before.before.before.before.before.before.before.before.before.before.before.before.before.before.put_u32-2.ensures ∙ (λ i. put_be 4 0 (e1 i) 264) in
-    let e3 = c.before.before.before.before.before.before.before.before.before.before.before.before.before.before.before.before.before.before.put_u32-3.ensures ∙ (λ i. put_be 4 0 (e2 i) 268) in
-    let e4 = c.before.before.before.before.before.before.before.before.before.before.before.before.before.before.put_u32-4.ensures ∙ (λ i. put_be 4 0 (e3 i) 272) in
-    let e5 = c.before.before.before.before.before.before.before.before.before.before.put_u32-5.ensures ∙ (λ i. put_be 4 0 (e4 i) 276) in
-    let e6 = c.before.before.before.before.before.before.put_u32-6.ensures ∙ (λ i. put_be 4 0 (e5 i) 280) in
-    let e = c.before.before.put_u32-7.ensures ∙ (λ i. put_be 4 0 (e6 i) 284) in
-    (turns_waiting none_waiting none_held _ _ e, e ∙ sym (put_here _ _ _ c.before.before.before.before.before.before.before.before.before.before.before.before.before.before.before.before.before.before.before.before.before.before.before.before.before.before.before.before.before.before.before.before.if-s-ne-STATE_LENGTH.false))
+    let e0 = c.put_u8.ensures in
+    let e1 = c.put_u32.ensures ∙ (λ i. put_be 4 0 (e0 i) 260) in
+    let e2 = c.put_u32-2.ensures ∙ (λ i. put_be 4 0 (e1 i) 264) in
+    let e3 = c.put_u32-3.ensures ∙ (λ i. put_be 4 0 (e2 i) 268) in
+    let e4 = c.put_u32-4.ensures ∙ (λ i. put_be 4 0 (e3 i) 272) in
+    let e5 = c.put_u32-5.ensures ∙ (λ i. put_be 4 0 (e4 i) 276) in
+    let e6 = c.put_u32-6.ensures ∙ (λ i. put_be 4 0 (e5 i) 280) in
+    let e = c.put_u32-7.ensures ∙ (λ i. put_be 4 0 (e6 i) 284) in
+    (turns_waiting none_waiting none_held _ _ e, e ∙ sym (put_here _ _ _ c.if-s-ne-STATE_LENGTH.false))
 
 pub clear_waiting_spec : {M : Type 1} → statement M
 clear_waiting_spec =

@@ -23,9 +23,9 @@ returns : tie.Need-returns
 unfolding state_at get_all
 returns c =
     (λ i. record {
-      display = (c.display_of-display.ensures ∙ ap display_of c.before.u8_at.ensures) i;
+      display = (c.display_of-display.ensures ∙ ap display_of c.u8_at.ensures) i;
     })
-    ∙ ap (λ (b : List ℕ). (state_at b).panel) (sym (of_long _ c.before.before.if-s-lt-EARLIER_LENGTH.false))
+    ∙ ap (λ (b : List ℕ). (state_at b).panel) (sym (of_long _ c.if-s-lt-EARLIER_LENGTH.false))
 
 pub panel_at_spec : {M : Type 1} → statement M
 panel_at_spec = tie.close (tie.spec returns-then-s-lt-EARLIER_LENGTH u8_at-requires display_of-display-requires returns)

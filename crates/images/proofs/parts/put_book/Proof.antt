@@ -48,26 +48,26 @@ put_flag-requires-2 c κs = search rules
 abbrev start : tie.After-slice_known-9-1 → tie.Start
 start c = c.before.before.before.before.before.before.before.before.before.before.before.before.before.before.before.before.before.before.before.before.before.before.before.before.before.before.before.before.before.before.before.before.before.before.before.before.before.before.before
 
-written : (c : tie.After-slice_known-9-1) → c.before.before.put_flag-2.new.0 ≡ put_all book_rows (book_numbers (start c).args.b) (start c).args.s-1.now
+written : (c : tie.After-slice_known-9-1) → c.put_flag-2.new.0 ≡ put_all book_rows (book_numbers (start c).args.b) (start c).args.s.now
 unfolding put_all
 written c =
     let a = start c in
     let b = a.args.b in
     let f = fields a in
-    let e1 = c.before.before.before.before.before.before.before.before.before.before.before.before.before.before.before.before.before.before.before.before.before.before.before.before.before.before.before.before.before.before.before.before.before.before.put_i32.ensures ∙ (λ i. put_be 4 (coded w32 ((arg f.opening).read i)) a.args.s-1.now 0) in
-    let e2 = c.before.before.before.before.before.before.before.before.before.before.before.before.before.before.before.before.before.before.before.before.before.before.before.before.before.before.before.before.before.put_i32-2.ensures ∙ (λ i. put_be 4 (coded w32 ((arg f.last).read i)) (e1 i) 4) in
-    let e3 = c.before.before.before.before.before.before.before.before.before.before.before.before.before.before.before.before.before.before.before.before.before.before.before.before.put_i64.ensures ∙ (λ i. put_be 8 (coded w64 ((arg f.refilled).read i)) (e2 i) 8) in
-    let e4 = c.before.before.before.before.before.before.before.before.before.before.before.before.before.before.before.before.before.before.before.put_i64-2.ensures ∙ (λ i. put_be 8 (coded w64 ((arg f.used).read i)) (e3 i) 16) in
-    let e5 = c.before.before.before.before.before.before.before.before.before.before.before.before.before.before.put_i64-3.ensures ∙ (λ i. put_be 8 (coded w64 ((arg f.unbooked).read i)) (e4 i) 24) in
-    let e6 = c.before.before.before.before.before.before.before.before.before.before.put_u32.ensures ∙ (λ i. put_be 4 b.ticks (e5 i) 32) in
-    let e7 = c.before.before.before.before.before.before.put_flag.ensures ∙ (λ i. put_be 1 (flag_tag b.begun) (e6 i) 36) in
-    c.before.before.put_flag-2.ensures ∙ (λ i. put_be 1 (flag_tag b.contact) (e7 i) 37)
+    let e1 = c.put_i32.ensures ∙ (λ i. put_be 4 (coded w32 ((arg f.opening).read i)) a.args.s.now 0) in
+    let e2 = c.put_i32-2.ensures ∙ (λ i. put_be 4 (coded w32 ((arg f.last).read i)) (e1 i) 4) in
+    let e3 = c.put_i64.ensures ∙ (λ i. put_be 8 (coded w64 ((arg f.refilled).read i)) (e2 i) 8) in
+    let e4 = c.put_i64-2.ensures ∙ (λ i. put_be 8 (coded w64 ((arg f.used).read i)) (e3 i) 16) in
+    let e5 = c.put_i64-3.ensures ∙ (λ i. put_be 8 (coded w64 ((arg f.unbooked).read i)) (e4 i) 24) in
+    let e6 = c.put_u32.ensures ∙ (λ i. put_be 4 b.ticks (e5 i) 32) in
+    let e7 = c.put_flag.ensures ∙ (λ i. put_be 1 (flag_tag b.begun) (e6 i) 36) in
+    c.put_flag-2.ensures ∙ (λ i. put_be 1 (flag_tag b.contact) (e7 i) 37)
 
 shape_of-s : tie.Need-shape_of-s
 shape_of-s c = ap length (written c) ∙ put_all_length book_rows (book_numbers _) _
 
 returns : tie.Need-returns
-returns c = (turns_book (start c).args.b (fields (start c)) _ _ (written c), written c ∙ sym (put_here _ _ _ c.before.before.before.before.before.before.before.before.before.before.before.before.before.before.before.before.before.before.before.before.before.before.before.before.before.before.before.before.before.before.before.before.before.before.before.before.before.if-s-ne-STATE_LENGTH.false))
+returns c = (turns_book (start c).args.b (fields (start c)) _ _ (written c), written c ∙ sym (put_here _ _ _ c.if-s-ne-STATE_LENGTH.false))
 
 pub put_book_spec : {M : Type 1} → statement M
 put_book_spec =

@@ -23,8 +23,8 @@ returns : tie.Need-returns
 unfolding put_all
 returns c =
     let a = c.before.before.before.before.before.before.before in
-    let e = c.before.before.put_u8.ensures ∙ (λ i. put_be 1 (c.before.before.before.display_number.ensures i) a.args.s-1.now 58) in
-    (turns_panel a.args.p _ _ e, e ∙ sym (put_here _ _ _ c.before.before.before.before.before.if-s-ne-STATE_LENGTH.false))
+    let e = c.put_u8.ensures ∙ (λ i. put_be 1 (c.display_number.ensures i) a.args.s.now 58) in
+    (turns_panel a.args.p _ _ e, e ∙ sym (put_here _ _ _ c.if-s-ne-STATE_LENGTH.false))
 
 pub put_panel_spec : {M : Type 1} → statement M
 put_panel_spec = tie.close (tie.spec returns-then-s-ne-STATE_LENGTH display_number-requires put_u8-requires shape_of-s returns)

@@ -47,13 +47,13 @@ unfolding put_all
 returns c =
     let a = c.before.before.before.before.before.before.before.before.before.before.before.before.before.before.before.before.before.before.before.before.before.before.before.before.before.before in
     let q = a.args.q in
-    let e1 = c.before.before.before.before.before.before.before.before.before.before.before.before.before.before.before.before.before.before.before.before.before.put_u8.ensures ∙ (λ i. put_be 1 (c.before.before.before.before.before.before.before.before.before.before.before.before.before.before.before.before.before.before.before.before.before.before.stage_number.ensures i) a.args.s-1.now 88) in
-    let e2 = c.before.before.before.before.before.before.before.before.before.before.before.before.before.before.before.before.put_u16.ensures ∙ (λ i. put_be 2 (c.before.before.before.before.before.before.before.before.before.before.before.before.before.before.before.before.before.stage_timer.ensures i) (e1 i) 90) in
-    let e3 = c.before.before.before.before.before.before.before.before.before.before.before.before.put_u16-2.ensures ∙ (λ i. put_be 2 q.clock (e2 i) 92) in
-    let e4 = c.before.before.before.before.before.before.before.put_u8-2.ensures ∙ (λ i. put_be 1 (c.before.before.before.before.before.before.before.before.error_number.ensures i) (e3 i) 94) in
-    let f : HeldSequence q = record { timer = omega (arith, c.before.before.before.before.before.before.before.before.before.before.before.before.before.before.before.before.before.stage_timer.ensures); clock = omega arith } in
-    let e = c.before.before.put_u8-3.ensures ∙ (λ i. put_be 1 (c.before.before.before.judgement_number.ensures i) (e4 i) 95) in
-    (turns_sequence q f _ _ e, e ∙ sym (put_here _ _ _ c.before.before.before.before.before.before.before.before.before.before.before.before.before.before.before.before.before.before.before.before.before.before.before.before.if-s-ne-STATE_LENGTH.false))
+    let e1 = c.put_u8.ensures ∙ (λ i. put_be 1 (c.stage_number.ensures i) a.args.s.now 88) in
+    let e2 = c.put_u16.ensures ∙ (λ i. put_be 2 (c.stage_timer.ensures i) (e1 i) 90) in
+    let e3 = c.put_u16-2.ensures ∙ (λ i. put_be 2 q.clock (e2 i) 92) in
+    let e4 = c.put_u8-2.ensures ∙ (λ i. put_be 1 (c.error_number.ensures i) (e3 i) 94) in
+    let f : HeldSequence q = record { timer = omega (arith, c.stage_timer.ensures); clock = omega arith } in
+    let e = c.put_u8-3.ensures ∙ (λ i. put_be 1 (c.judgement_number.ensures i) (e4 i) 95) in
+    (turns_sequence q f _ _ e, e ∙ sym (put_here _ _ _ c.if-s-ne-STATE_LENGTH.false))
 
 pub put_sequence_spec : {M : Type 1} → statement M
 put_sequence_spec =

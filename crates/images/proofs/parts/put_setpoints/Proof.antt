@@ -44,14 +44,14 @@ unfolding put_all
 returns c =
     let a = c.before.before.before.before.before.before.before.before.before.before.before.before.before.before.before.before.before.before.before.before.before.before.before.before.before.before.before.before.before.before in
     let p = a.args.p in
-    let e1 = c.before.before.before.before.before.before.before.before.before.before.before.before.before.before.before.before.before.before.before.before.before.before.before.before.before.before.put_u32.ensures in
-    let e2 = c.before.before.before.before.before.before.before.before.before.before.before.before.before.before.before.before.before.before.before.before.before.before.put_u32-2.ensures ∙ (λ i. put_be 4 p.fall (e1 i) 64) in
-    let e3 = c.before.before.before.before.before.before.before.before.before.before.before.before.before.before.before.before.before.before.put_u32-3.ensures ∙ (λ i. put_be 4 p.preliminary (e2 i) 68) in
-    let e4 = c.before.before.before.before.before.before.before.before.before.before.before.before.before.before.put_u32-4.ensures ∙ (λ i. put_be 4 p.optional (e3 i) 72) in
-    let e5 = c.before.before.before.before.before.before.before.before.before.before.put_u32-5.ensures ∙ (λ i. put_be 4 p.over (e4 i) 76) in
-    let e6 = c.before.before.before.before.before.before.put_u32-6.ensures ∙ (λ i. put_be 4 p.under (e5 i) 80) in
-    let e = c.before.before.put_u32-7.ensures ∙ (λ i. put_be 4 p.near (e6 i) 84) in
-    (turns_setpoints p (fields a) _ _ e, e ∙ sym (put_here _ _ _ c.before.before.before.before.before.before.before.before.before.before.before.before.before.before.before.before.before.before.before.before.before.before.before.before.before.before.before.before.if-s-ne-STATE_LENGTH.false))
+    let e1 = c.put_u32.ensures in
+    let e2 = c.put_u32-2.ensures ∙ (λ i. put_be 4 p.fall (e1 i) 64) in
+    let e3 = c.put_u32-3.ensures ∙ (λ i. put_be 4 p.preliminary (e2 i) 68) in
+    let e4 = c.put_u32-4.ensures ∙ (λ i. put_be 4 p.optional (e3 i) 72) in
+    let e5 = c.put_u32-5.ensures ∙ (λ i. put_be 4 p.over (e4 i) 76) in
+    let e6 = c.put_u32-6.ensures ∙ (λ i. put_be 4 p.under (e5 i) 80) in
+    let e = c.put_u32-7.ensures ∙ (λ i. put_be 4 p.near (e6 i) 84) in
+    (turns_setpoints p (fields a) _ _ e, e ∙ sym (put_here _ _ _ c.if-s-ne-STATE_LENGTH.false))
 
 pub put_setpoints_spec : {M : Type 1} → statement M
 put_setpoints_spec =

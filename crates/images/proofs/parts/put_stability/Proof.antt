@@ -26,10 +26,10 @@ unfolding put_all
 returns c =
     let a = c.before.before.before.before.before.before.before.before.before.before in
     let q = a.args.q in
-    let e1 = c.before.before.before.before.before.before.put_flag.ensures in
+    let e1 = c.put_flag.ensures in
     let f : q.run < 2 ^ 16 = omega (arith, c) in
-    let e = c.before.before.put_u16.ensures ∙ (λ i. put_be 2 q.run (e1 i) 42) in
-    (turns_stability q f _ _ e, e ∙ sym (put_here _ _ _ c.before.before.before.before.before.before.before.before.if-s-ne-STATE_LENGTH.false))
+    let e = c.put_u16.ensures ∙ (λ i. put_be 2 q.run (e1 i) 42) in
+    (turns_stability q f _ _ e, e ∙ sym (put_here _ _ _ c.if-s-ne-STATE_LENGTH.false))
 
 pub put_stability_spec : {M : Type 1} → statement M
 put_stability_spec = tie.close (tie.spec returns-then-s-ne-STATE_LENGTH put_flag-requires put_u16-requires shape_of-s returns)

@@ -38,12 +38,12 @@ unfolding put_all
 returns c =
     let a = c.before.before.before.before.before.before.before.before.before.before.before.before.before.before.before.before.before.before.before.before in
     let t = a.args.t in
-    let e1 = c.before.before.before.before.before.before.before.before.before.before.before.before.before.before.before.before.put_u64.ensures in
-    let e2 = c.before.before.before.before.before.before.before.before.before.before.before.before.put_u32.ensures ∙ (λ i. put_be 4 t.count (e1 i) 104) in
-    let e3 = c.before.before.before.before.before.before.before.put_u8.ensures ∙ (λ i. put_be 1 (c.before.before.before.before.before.before.before.before.back_tag.ensures i) (e2 i) 108) in
-    let f : HeldTotals t = record { total = omega arith; count = omega arith; weight = omega (arith, c.before.before.before.back_weight.ensures) } in
-    let e = c.before.before.put_u64-2.ensures ∙ (λ i. put_be 8 (c.before.before.before.back_weight.ensures i) (e3 i) 112) in
-    (turns_totals t f _ _ e, e ∙ sym (put_here _ _ _ c.before.before.before.before.before.before.before.before.before.before.before.before.before.before.before.before.before.before.if-s-ne-STATE_LENGTH.false))
+    let e1 = c.put_u64.ensures in
+    let e2 = c.put_u32.ensures ∙ (λ i. put_be 4 t.count (e1 i) 104) in
+    let e3 = c.put_u8.ensures ∙ (λ i. put_be 1 (c.back_tag.ensures i) (e2 i) 108) in
+    let f : HeldTotals t = record { total = omega arith; count = omega arith; weight = omega (arith, c.back_weight.ensures) } in
+    let e = c.put_u64-2.ensures ∙ (λ i. put_be 8 (c.back_weight.ensures i) (e3 i) 112) in
+    (turns_totals t f _ _ e, e ∙ sym (put_here _ _ _ c.if-s-ne-STATE_LENGTH.false))
 
 pub put_totals_spec : {M : Type 1} → statement M
 put_totals_spec =

@@ -39,11 +39,11 @@ returns c =
     let a = c.before.before.before.before.before.before.before.before.before.before.before.before.before.before.before.before.before.before.before.before.before in
     let w = a.args.w in
     let f = fields a in
-    let e1 = c.before.before.before.before.before.before.before.before.before.before.before.before.before.before.before.before.put_i32.ensures ∙ (λ i. put_be 4 (coded w32 ((arg f.zero).read i)) a.args.s-1.now 44) in
-    let e2 = c.before.before.before.before.before.before.before.before.before.before.before.put_i32-2.ensures ∙ (λ i. put_be 4 (coded w32 ((arg f.tracked).read i)) (e1 i) 48) in
-    let e3 = c.before.before.before.before.before.before.put_i32-3.ensures ∙ (λ i. put_be 4 (coded w32 ((arg f.tare).read i)) (e2 i) 52) in
-    let e = c.before.before.put_u16.ensures ∙ (λ i. put_be 2 w.counter (e3 i) 56) in
-    (turns_weighing w f _ _ e, e ∙ sym (put_here _ _ _ c.before.before.before.before.before.before.before.before.before.before.before.before.before.before.before.before.before.before.before.if-s-ne-STATE_LENGTH.false))
+    let e1 = c.put_i32.ensures ∙ (λ i. put_be 4 (coded w32 ((arg f.zero).read i)) a.args.s.now 44) in
+    let e2 = c.put_i32-2.ensures ∙ (λ i. put_be 4 (coded w32 ((arg f.tracked).read i)) (e1 i) 48) in
+    let e3 = c.put_i32-3.ensures ∙ (λ i. put_be 4 (coded w32 ((arg f.tare).read i)) (e2 i) 52) in
+    let e = c.put_u16.ensures ∙ (λ i. put_be 2 w.counter (e3 i) 56) in
+    (turns_weighing w f _ _ e, e ∙ sym (put_here _ _ _ c.if-s-ne-STATE_LENGTH.false))
 
 pub put_weighing_spec : {M : Type 1} → statement M
 put_weighing_spec =

@@ -41,12 +41,12 @@ returns : tie.Need-returns
 unfolding state_at get_all
 returns c =
     (λ i. record {
-      stage = (c.before.before.before.before.before.stage_of-stage.ensures ∙ (λ j. stage_of (c.before.before.before.before.before.before.before.u8_at.ensures j) (c.before.before.before.before.before.before.u16_at.ensures j))) i;
-      clock = c.before.before.before.before.u16_at-clock.ensures i;
-      error = (c.before.before.error_of-error.ensures ∙ ap error_of c.before.before.before.u8_at-2.ensures) i;
-      judgement = (c.judgement_of-judgement.ensures ∙ ap judgement_of c.before.u8_at-3.ensures) i;
+      stage = (c.stage_of-stage.ensures ∙ (λ j. stage_of (c.u8_at.ensures j) (c.u16_at.ensures j))) i;
+      clock = c.u16_at-clock.ensures i;
+      error = (c.error_of-error.ensures ∙ ap error_of c.u8_at-2.ensures) i;
+      judgement = (c.judgement_of-judgement.ensures ∙ ap judgement_of c.u8_at-3.ensures) i;
     })
-    ∙ ap (λ (b : List ℕ). (state_at b).sequence) (sym (of_long _ c.before.before.before.before.before.before.before.before.if-s-lt-EARLIER_LENGTH.false))
+    ∙ ap (λ (b : List ℕ). (state_at b).sequence) (sym (of_long _ c.if-s-lt-EARLIER_LENGTH.false))
 
 pub sequence_at_spec : {M : Type 1} → statement M
 sequence_at_spec =

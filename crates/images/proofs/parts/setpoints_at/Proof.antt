@@ -38,15 +38,15 @@ returns : tie.Need-returns
 unfolding state_at get_all
 returns c =
     (λ i. record {
-      target = c.before.before.before.before.before.before.u32_at-target.ensures i;
-      fall = c.before.before.before.before.before.u32_at-fall.ensures i;
-      preliminary = c.before.before.before.before.u32_at-preliminary.ensures i;
-      optional = c.before.before.before.u32_at-optional.ensures i;
-      over = c.before.before.u32_at-over.ensures i;
-      under = c.before.u32_at-under.ensures i;
+      target = c.u32_at-target.ensures i;
+      fall = c.u32_at-fall.ensures i;
+      preliminary = c.u32_at-preliminary.ensures i;
+      optional = c.u32_at-optional.ensures i;
+      over = c.u32_at-over.ensures i;
+      under = c.u32_at-under.ensures i;
       near = c.u32_at-near.ensures i;
     })
-    ∙ ap (λ (b : List ℕ). (state_at b).setpoints) (sym (of_long _ c.before.before.before.before.before.before.before.if-s-lt-EARLIER_LENGTH.false))
+    ∙ ap (λ (b : List ℕ). (state_at b).setpoints) (sym (of_long _ c.if-s-lt-EARLIER_LENGTH.false))
 
 pub setpoints_at_spec : {M : Type 1} → statement M
 setpoints_at_spec =

@@ -23,10 +23,10 @@ returns : tie.Need-returns
 unfolding state_at get_all
 returns c =
     (λ i. record {
-      good = c.before.flag_at-good.ensures i;
+      good = c.flag_at-good.ensures i;
       run = c.u16_at-run.ensures i;
     })
-    ∙ ap (λ (b : List ℕ). (state_at b).stability) (sym (of_long _ c.before.before.if-s-lt-EARLIER_LENGTH.false))
+    ∙ ap (λ (b : List ℕ). (state_at b).stability) (sym (of_long _ c.if-s-lt-EARLIER_LENGTH.false))
 
 pub stability_at_spec : {M : Type 1} → statement M
 stability_at_spec = tie.close (tie.spec returns-then-s-lt-EARLIER_LENGTH flag_at-good-requires u16_at-run-requires returns)

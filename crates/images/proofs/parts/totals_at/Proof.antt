@@ -32,11 +32,11 @@ returns : tie.Need-returns
 unfolding state_at get_all
 returns c =
     (λ i. record {
-      total = c.before.before.before.before.u64_at-total.ensures i;
-      count = c.before.before.before.u32_at-count.ensures i;
-      back = (c.back_of_lem.ensures ∙ (λ j. back_of (c.before.before.u8_at.ensures j) (c.before.u64_at.ensures j))) i;
+      total = c.u64_at-total.ensures i;
+      count = c.u32_at-count.ensures i;
+      back = (c.back_of_lem.ensures ∙ (λ j. back_of (c.u8_at.ensures j) (c.u64_at.ensures j))) i;
     })
-    ∙ ap (λ (b : List ℕ). (state_at b).totals) (sym (of_long _ c.before.before.before.before.before.if-s-lt-EARLIER_LENGTH.false))
+    ∙ ap (λ (b : List ℕ). (state_at b).totals) (sym (of_long _ c.if-s-lt-EARLIER_LENGTH.false))
 
 pub totals_at_spec : {M : Type 1} → statement M
 totals_at_spec =

@@ -47,17 +47,17 @@ returns c =
     (λ i. record {
       write =
           (c.write_of-write.ensures
-          ∙ (λ j. write_of (c.before.u8_at.ensures j) (record {
-            target = r.before.before.before.before.before.before.u32_at-target.ensures j;
-            fall = r.before.before.before.before.before.u32_at-fall.ensures j;
-            preliminary = r.before.before.before.before.u32_at-preliminary.ensures j;
-            optional = r.before.before.before.u32_at-optional.ensures j;
-            over = r.before.before.u32_at-over.ensures j;
-            under = r.before.u32_at-under.ensures j;
+          ∙ (λ j. write_of (c.u8_at.ensures j) (record {
+            target = r.u32_at-target.ensures j;
+            fall = r.u32_at-fall.ensures j;
+            preliminary = r.u32_at-preliminary.ensures j;
+            optional = r.u32_at-optional.ensures j;
+            over = r.u32_at-over.ensures j;
+            under = r.u32_at-under.ensures j;
             near = r.u32_at-near.ensures j;
           }))) i;
     })
-    ∙ ap (λ (b : List ℕ). (state_at b).waiting) (sym (of_length state_length _ r.before.before.before.before.before.before.before.if-s-ne-STATE_LENGTH.false))
+    ∙ ap (λ (b : List ℕ). (state_at b).waiting) (sym (of_length state_length _ r.if-s-ne-STATE_LENGTH.false))
 
 pub waiting_at_spec : {M : Type 1} → statement M
 waiting_at_spec =

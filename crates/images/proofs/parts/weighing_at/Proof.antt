@@ -31,12 +31,12 @@ returns : tie.Need-returns
 unfolding state_at get_all
 returns c =
     (λ i. record {
-      zero = ((got {w = w32} _ c.before.before.before.i32_at-zero.type-inv).read ∙ c.before.before.before.i32_at-zero.ensures) i;
-      tracked = ((got {w = w32} _ c.before.before.i32_at-tracked.type-inv).read ∙ c.before.before.i32_at-tracked.ensures) i;
-      tare = ((got {w = w32} _ c.before.i32_at-tare.type-inv).read ∙ c.before.i32_at-tare.ensures) i;
+      zero = ((got {w = w32} _ c.i32_at-zero.type_inv).read ∙ c.i32_at-zero.ensures) i;
+      tracked = ((got {w = w32} _ c.i32_at-tracked.type_inv).read ∙ c.i32_at-tracked.ensures) i;
+      tare = ((got {w = w32} _ c.i32_at-tare.type_inv).read ∙ c.i32_at-tare.ensures) i;
       counter = c.u16_at-counter.ensures i;
     })
-    ∙ ap (λ (b : List ℕ). (state_at b).weighing) (sym (of_long _ c.before.before.before.before.if-s-lt-EARLIER_LENGTH.false))
+    ∙ ap (λ (b : List ℕ). (state_at b).weighing) (sym (of_long _ c.if-s-lt-EARLIER_LENGTH.false))
 
 pub weighing_at_spec : {M : Type 1} → statement M
 weighing_at_spec =

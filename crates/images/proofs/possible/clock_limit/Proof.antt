@@ -17,18 +17,18 @@ given-requires c κs = search rules
 
 returns-then-n-le11 : tie.Need-returns-then-n-le11
 unfolding clock_limit settings_of given_at get_all
-returns-then-n-le11 c = simp (c.given.ensures, le-leb _ _ c.before.if-n-le11.true, le-ltb _ _ c.before.before.if-n-lt4.false)
+returns-then-n-le11 c = simp (c.given.ensures, le-leb _ _ c.if-n-le11.true, le-ltb _ _ c.if-n-lt4.false)
 
 given-requires-then-n-ge15 : tie.Need-given-requires-then-n-ge15
 given-requires-then-n-ge15 c κs = search rules
 
 returns-then-n-ge15 : tie.Need-returns-then-n-ge15
 unfolding clock_limit settings_of given_at get_all
-returns-then-n-ge15 c = simp (c.given-then-n-ge15.ensures, le-leb _ _ c.before.if-n-ge15.true, lt-leb _ _ c.before.before.if-n-le11.false, le-ltb _ _ c.before.before.before.if-n-lt4.false)
+returns-then-n-ge15 c = simp (c.given-then-n-ge15.ensures, le-leb _ _ c.if-n-ge15.true, lt-leb _ _ c.if-n-le11.false, le-ltb _ _ c.if-n-lt4.false)
 
 returns : tie.Need-returns
 unfolding clock_limit
-returns c = simp (lt-leb _ _ c.if-n-ge15.false, lt-leb _ _ c.before.if-n-le11.false, le-ltb _ _ c.before.before.if-n-lt4.false)
+returns c = simp (lt-leb _ _ c.if-n-ge15.false, lt-leb _ _ c.if-n-le11.false, le-ltb _ _ c.if-n-lt4.false)
 
 pub clock_limit_spec : {M : Type 1} → statement M
 clock_limit_spec =

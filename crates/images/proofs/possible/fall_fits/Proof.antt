@@ -16,14 +16,14 @@ use Rattle.outline.specs.Limits.{raw_limit}
 use Rattle.images.proofs.possible.fall_fits.Statement.{statement}
 use Rattle.images.proofs.possible.fall_fits.Tie as tie
 
-unbooked : (c : tie.After-magnitude) → c.magnitude.result ≡ nat_abs c.before.args.unbooked
-unbooked c = simp (c.magnitude.ensures, to_z-of_z c.before.ranges.unbooked)
+unbooked : (c : tie.After-magnitude) → c.magnitude.result ≡ nat_abs c.args.unbooked
+unbooked c = simp (c.magnitude.ensures, to_z-of_z c.ranges.unbooked)
 
 -- a sum is not small where one of two is large and the other is not
 large_sum : (x y : ℤ) → 1000000000000000000 ≤ nat_abs x → nat_abs y ≤ 2147483648 → 999999990000000000 ≤ nat_abs (x +ℤ y)
 large_sum = ints2 _ (λ a a' b b' h k. simp ints (omega (linear, simp ints at h, simp ints at k)))
 
-summed : (c : tie.Else-magnitude-gt-SUM_ROOM) → SFits w64 (c.before.before.args.unbooked +ℤ c.before.before.args.last)
+summed : (c : tie.Else-magnitude-gt-SUM_ROOM) → SFits w64 (c.args.unbooked +ℤ c.args.last)
 summed c =
     let s = c.before.before in
     add_fits w64 1000000000000000000 2147483648 s.args.unbooked s.args.last (omega (arith, c.if-magnitude-gt-SUM_ROOM.false, unbooked c.before)) (abs_fits w32 s.ranges.last) tt
@@ -38,7 +38,7 @@ returns-then-magnitude-gt-SUM_ROOM c =
     sym (lt-leb _ _ large)
 
 overflow_cast-last : tie.Need-overflow_cast-last
-overflow_cast-last c = let f = c.before.before.ranges.last in cast_need (arg f) (wider f)
+overflow_cast-last c = let f = c.ranges.last in cast_need (arg f) (wider f)
 
 overflow_add-unbooked : tie.Need-overflow_add-unbooked
 overflow_add-unbooked c = let s = c.before.before in add_need (arg s.ranges.unbooked) (widened s.ranges.last) (summed c)

@@ -14,7 +14,7 @@ size-requires : tie.Need-size-requires
 size-requires c κs = search rules
 
 returns : tie.Need-returns
-returns c = c.size.ensures ∙ ap nat_abs ((got {w = w32} _ c.before.i32_at.type-inv).read ∙ c.before.i32_at.ensures)
+returns c = c.size.ensures ∙ ap nat_abs ((got {w = w32} _ c.i32_at.type_inv).read ∙ c.i32_at.ensures)
 
 pub given_spec : {M : Type 1} → statement M
 given_spec = tie.close (tie.spec i32_at-requires size-requires returns)

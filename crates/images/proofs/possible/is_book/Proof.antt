@@ -30,22 +30,22 @@ fields : (s : tie.Start) → Signed s.args.b
 fields s = record { opening = search sfits_of; last = search sfits_of; refilled = search sfits_of; used = search sfits_of; unbooked = search sfits_of }
 
 summed : (c : tie.After-sums_fit) →
-    let b = c.before.before.before.args.b in
+    let b = c.args.b in
     c.sums_fit.result ≡ leb (nat_abs b.refilled + nat_abs b.used) (rise_limit * b.ticks)
 summed c = let h = fields c.before.before.before in simp (c.sums_fit.ensures, to_z-of_z h.refilled, to_z-of_z h.used)
 
 fallen : (c : tie.After-fall_fits) →
-    let b = c.before.before.before.before.before.before.before.args.b in
+    let b = c.args.b in
     c.fall_fits.result ≡ leb (nat_abs (b.unbooked +ℤ b.last)) raw_limit
 fallen c = let h = fields c.before.before.before.before.before.before.before in simp (c.fall_fits.ensures, to_z-of_z h.unbooked, to_z-of_z h.last)
 
 were_sums : (c : tie.Else-not-sums_fit) →
-    let b = c.before.before.before.before.args.b in
+    let b = c.args.b in
     leb (nat_abs b.refilled + nat_abs b.used) (rise_limit * b.ticks) ≡ true
 were_sums c = sym (summed c.before) ∙ not-false _ c.if-not-sums_fit.false
 
 was_fall : (c : tie.Else-not-fall_fits) →
-    let b = c.before.before.before.before.before.before.before.before.args.b in
+    let b = c.args.b in
     leb (nat_abs (b.unbooked +ℤ b.last)) raw_limit ≡ true
 was_fall c = sym (fallen c.before) ∙ not-false _ c.if-not-fall_fits.false
 
@@ -88,12 +88,12 @@ returns c =
     let b = s.args.b in
     let h = fields s in
     simp (
-      c.before.before.before.before.before.before.before.before.before.before.before.before.before.is_raw.ensures,
-      c.before.before.before.before.before.before.before.before.before.before.before.is_raw-2.ensures,
+      c.is_raw.ensures,
+      c.is_raw-2.ensures,
       to_z-of_z h.opening,
       to_z-of_z h.last,
       eqb_is {y = pos 0} h.unbooked (sfits_of (lit< tt)),
-      c.before.before.before.before.before.before.before.is_blank.ensures,
+      c.is_blank.ensures,
       c.is_balanced.ensures,
       to_z-of_z h.refilled,
       to_z-of_z h.used,

@@ -20,38 +20,38 @@ use Rattle.images.proofs.possible.is_possible.Tie as tie
 
 -- both images have their lengths
 lengths : (c : tie.After-is_book) →
-    let s = c.before.before.before.before.before.before.before.args in
+    let s = c.args in
     (length s.g.now ≡ given_length) × (is_image (length s.s.now) ≡ true)
 lengths c =
     let h = c.before.before in
-    (h.before.before.if-g-ne-GIVEN_LENGTH.false, sym h.before.is_image.ensures ∙ not-false _ h.if-not-is_image.false)
+    (h.if-g-ne-GIVEN_LENGTH.false, sym h.is_image.ensures ∙ not-false _ h.if-not-is_image.false)
 
 -- what was judged is the part at its places
 book : (c : tie.After-is_book) →
-    let l = c.before.before.before.before.before.before.before.args.s.now in
+    let l = c.args.s.now in
     is_image (length l) ≡ true → c.is_book.result ≡ book_possible (state_at l).book
-book c f = c.is_book.ensures ∙ ap book_possible (part_here _ f (λ (t : State). t.book) c.before.book_at-book.ensures)
+book c f = c.is_book.ensures ∙ ap book_possible (part_here _ f (λ (t : State). t.book) c.book_at-book.ensures)
 
 totals : (c : tie.After-is_totals) →
-    let l = c.before.before.before.before.before.before.before.before.before.before.args.s.now in
+    let l = c.args.s.now in
     is_image (length l) ≡ true → c.is_totals.result ≡ totals_possible (state_at l).totals
-totals c f = c.is_totals.ensures ∙ ap totals_possible (part_here _ f (λ (t : State). t.totals) c.before.totals_at-totals.ensures)
+totals c f = c.is_totals.ensures ∙ ap totals_possible (part_here _ f (λ (t : State). t.totals) c.totals_at-totals.ensures)
 
 weighing : (c : tie.After-is_weighing) →
-    let s = c.before.before.before.before.before.before.before.before.before.before.before.before.before.args in
+    let s = c.args in
     let g = settings_of (given_at s.g.now) in
     is_image (length s.s.now) ≡ true → c.is_weighing.result ≡ weighing_possible g.range g.tracking (state_at s.s.now).weighing
 weighing c f =
-    let g = settings_of (given_at c.before.before.before.before.before.before.before.before.before.before.before.before.before.args.g.now) in
-    c.is_weighing.ensures ∙ ap (weighing_possible g.range g.tracking) (part_here _ f (λ (t : State). t.weighing) c.before.weighing_at-weighing.ensures)
+    let g = settings_of (given_at c.args.g.now) in
+    c.is_weighing.ensures ∙ ap (weighing_possible g.range g.tracking) (part_here _ f (λ (t : State). t.weighing) c.weighing_at-weighing.ensures)
 
 waiting : (c : tie.After-write_fits) →
-    let s = c.before.before.before.before.before.before.before.before.before.before.before.before.before.before.before.before.args in
+    let s = c.args in
     let g = settings_of (given_at s.g.now) in
     is_image (length s.s.now) ≡ true → c.write_fits_lem.result ≡ write_fits g.batching.mode (state_at s.s.now).waiting.write
 waiting c f =
-    let g = settings_of (given_at c.before.before.before.before.before.before.before.before.before.before.before.before.before.before.before.before.args.g.now) in
-    c.write_fits_lem.ensures ∙ ap (λ (w : Waiting). write_fits g.batching.mode w.write) (waiting_here _ f c.before.waiting_at-waiting.ensures)
+    let g = settings_of (given_at c.args.g.now) in
+    c.write_fits_lem.ensures ∙ ap (λ (w : Waiting). write_fits g.batching.mode w.write) (waiting_here _ f c.waiting_at-waiting.ensures)
 
 returns-then-g-ne-GIVEN_LENGTH : tie.Need-returns-then-g-ne-GIVEN_LENGTH
 returns-then-g-ne-GIVEN_LENGTH c = sym (possible_no_settings _ _ c.if-g-ne-GIVEN_LENGTH.true)
@@ -60,7 +60,7 @@ is_image-requires : tie.Need-is_image-requires
 is_image-requires c κs = search rules
 
 returns-then-not-is_image : tie.Need-returns-then-not-is_image
-returns-then-not-is_image c = sym (possible_no_state _ _ c.before.before.if-g-ne-GIVEN_LENGTH.false (sym c.before.is_image.ensures ∙ not-true _ c.if-not-is_image.true))
+returns-then-not-is_image c = sym (possible_no_state _ _ c.if-g-ne-GIVEN_LENGTH.false (sym c.is_image.ensures ∙ not-true _ c.if-not-is_image.true))
 
 book_at-book-requires : tie.Need-book_at-book-requires
 book_at-book-requires c κs = search rules
@@ -128,16 +128,16 @@ returns c =
     let e5 = e6.before.before.before in
     let e4 = e5.before.before.before in
     let e3 = e4.before.before.before in
-    let s = e3.before.before.before.before.before.before.before.before.args in
+    let s = e3.args in
     let k = lengths e3.before in
     let f = k.1 in
     let st = state_at s.s.now in
-    let at = part_here _ f (λ (t : State). t.book) e3.before.before.book_at-book.ensures in
-    let scales = part_here _ f (λ (t : State). t.weighing) e5.before.before.weighing_at-weighing.ensures in
-    let waits = waiting_here _ f e6.before.before.waiting_at-waiting.ensures in
-    let q = part_here _ f (λ (t : State). t.stability) c.before.before.before.stability_at-stability.ensures in
-    let p = part_here _ f (λ (t : State). t.setpoints) c.before.before.setpoints_at-setpoints.ensures in
-    let x = part_here _ f (λ (t : State). t.sequence) c.before.sequence_at-sequence.ensures in
+    let at = part_here _ f (λ (t : State). t.book) e3.book_at-book.ensures in
+    let scales = part_here _ f (λ (t : State). t.weighing) e5.weighing_at-weighing.ensures in
+    let waits = waiting_here _ f e6.waiting_at-waiting.ensures in
+    let q = part_here _ f (λ (t : State). t.stability) c.stability_at-stability.ensures in
+    let p = part_here _ f (λ (t : State). t.setpoints) c.setpoints_at-setpoints.ensures in
+    let x = part_here _ f (λ (t : State). t.sequence) c.sequence_at-sequence.ensures in
     let g = settings_of (given_at s.g.now) in
     c.is_rest.ensures
     ∙ (λ i. rest_possible g (q i) (p i) (x i) (at i).begun (scales i).counter ((v.has_points-waits.ensures ∙ ap (λ (w : Waiting). is_write w.write) waits) i))

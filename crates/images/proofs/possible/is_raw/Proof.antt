@@ -8,7 +8,7 @@ size-requires : tie.Need-size-requires
 size-requires c κs = search rules
 
 returns : tie.Need-returns
-returns c = simp (c.size.ensures, to_z-of_z c.before.ranges.x)
+returns c = simp (c.size.ensures, to_z-of_z c.ranges.x)
 
 pub is_raw_spec : {M : Type 1} → statement M
 is_raw_spec = tie.close (tie.spec size-requires returns)

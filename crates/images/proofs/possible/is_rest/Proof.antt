@@ -39,16 +39,16 @@ is_together-requires c κs = search rules
 returns : tie.Need-returns
 unfolding rest_possible
 returns c =
-    let a = c.before.before.before.before.before.before.before.before.before.before.args in
+    let a = c.args in
     let b = (settings_of (given_at a.g.now)).batching in
-    let mode = c.before.before.before.before.before.before.before.before.given_mode-mode.ensures in
-    let n = c.before.before.before.before.before.before.before.stage_number-n.ensures in
-    let t = c.before.before.before.before.before.before.stage_timer-t.ensures in
-    let e = c.before.before.before.before.before.error_number-e.ensures in
-    let j = c.before.before.before.before.judgement_number-j.ensures in
-    λ i. c.before.before.before.is_stability.ensures i
-    && (c.before.before.setpoints_fit_lem.ensures ∙ (λ k. setpoints_fit (mode k) a.p)) i
-    && (c.before.is_sequence.ensures ∙ (λ k. sequence_fits b (n k) (t k) a.x.clock (e k) (j k))) i
+    let mode = c.given_mode-mode.ensures in
+    let n = c.stage_number-n.ensures in
+    let t = c.stage_timer-t.ensures in
+    let e = c.error_number-e.ensures in
+    let j = c.judgement_number-j.ensures in
+    λ i. c.is_stability.ensures i
+    && (c.setpoints_fit_lem.ensures ∙ (λ k. setpoints_fit (mode k) a.p)) i
+    && (c.is_sequence.ensures ∙ (λ k. sequence_fits b (n k) (t k) a.x.clock (e k) (j k))) i
     && (c.is_together.ensures ∙ (λ k. together_fits (mode k) a.p (n k) a.q.good a.begun a.counter a.waits)) i
 
 pub is_rest_spec : {M : Type 1} → statement M

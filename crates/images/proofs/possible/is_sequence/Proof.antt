@@ -44,11 +44,11 @@ returns c =
     let n = s.args.n in
     let e = s.args.e in
     let mode =
-    eqb_is {w = w32} {x = c.i32_at.result} {y = pos 1} (sfits_of c.i32_at.type-inv) (sfits_of (lit< tt))
+    eqb_is {w = w32} {x = c.i32_at.result} {y = pos 1} (sfits_of c.i32_at.type_inv) (sfits_of (lit< tt))
     ∙ ap (λ (m : ℤ). eq_z m (pos 1)) c.i32_at.ensures
     ∙ sym (normal (signed w32 (be_at 4 s.args.g.now 44))) in
-    λ i. ltb s.args.t ((c.before.before.at_least_one.ensures ∙ (λ k. max (c.before.before.before.time_of.ensures k) 1)) i)
-    && leb s.args.clock (c.before.clock_limit.ensures i)
+    λ i. ltb s.args.t ((c.at_least_one.ensures ∙ (λ k. max (c.time_of.ensures k) 1)) i)
+    && leb s.args.clock (c.clock_limit.ensures i)
     && (eqb n 0 || eqb e 0)
     && (eqb n 0 || leb 14 n || eqb s.args.j 0)
     && (mode i || not (discharges_at n e))

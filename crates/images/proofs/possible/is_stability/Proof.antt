@@ -15,7 +15,7 @@ given-requires c κs = search rules
 
 returns : tie.Need-returns
 unfolding stability_possible settings_of given_at get_all
-returns c = simp c.before.before.given.ensures
+returns c = simp c.given.ensures
 
 pub is_stability_spec : {M : Type 1} → statement M
 is_stability_spec = tie.close (tie.spec overflow_cast-result given-requires returns)

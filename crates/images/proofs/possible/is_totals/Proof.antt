@@ -15,7 +15,7 @@ overflow_cast-result c = search rules
 
 returns : tie.Need-returns
 unfolding totals_possible
-returns c = simp (c.before.back_tag.ensures, c.before.before.before.back_weight.ensures)
+returns c = simp (c.back_tag.ensures, c.back_weight.ensures)
 
 pub is_totals_spec : {M : Type 1} → statement M
 is_totals_spec = tie.close (tie.spec back_weight-requires back_tag-requires overflow_cast-result returns)

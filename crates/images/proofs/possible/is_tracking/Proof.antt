@@ -14,7 +14,7 @@ given-requires-2 c κs = search rules
 
 returns : tie.Need-returns
 unfolding settings_of given_at get_all
-returns c = simp (c.given-2.ensures, c.before.given.ensures)
+returns c = simp (c.given-2.ensures, c.given.ensures)
 
 pub is_tracking_spec : {M : Type 1} → statement M
 is_tracking_spec = tie.close (tie.spec given-requires given-requires-2 returns)

@@ -45,7 +45,7 @@ overflow_cast-zeroes : tie.Need-overflow_cast-zeroes
 overflow_cast-zeroes c = search rules
 
 overflow_mul-zeroes : tie.Need-overflow_mul-zeroes
-overflow_mul-zeroes c = product c.before.given-capacity.result c.given.result c.before.given-capacity.type-inv c.given.type-inv
+overflow_mul-zeroes c = product c.given-capacity.result c.given.result c.given-capacity.type_inv c.given.type_inv
 
 given-requires-2 : tie.Need-given-requires-2
 given-requires-2 c κs = search rules
@@ -54,7 +54,7 @@ overflow_cast-tares : tie.Need-overflow_cast-tares
 overflow_cast-tares c = search rules
 
 overflow_mul-tares : tie.Need-overflow_mul-tares
-overflow_mul-tares c = product c.before.before.given-capacity.result c.given-2.result c.before.before.given-capacity.type-inv c.given-2.type-inv
+overflow_mul-tares c = product c.given-capacity.result c.given-2.result c.given-capacity.type_inv c.given-2.type_inv
 
 wide-requires : tie.Need-wide-requires
 wide-requires c κs = search rules
@@ -98,22 +98,22 @@ returns c =
     let s = c.before.before.before.before.before.before.before.before.before.before.before.before.before.before.before.before.before.before.before.before.before.before.before.before.before.before in
     let f = fields s in
     let w = s.args.w in
-    let capacity = c.before.before.before.before.before.before.before.before.before.before.before.before.before.before.before.before.before.before.before.before.before.before.before.before.given-capacity.ensures in
-    let zeroing = c.before.before.before.before.before.before.before.before.before.before.before.before.before.before.before.before.before.before.before.before.before.before.before.given.ensures in
-    let division = c.before.before.before.before.before.before.before.before.before.before.before.before.before.before.before.before.before.before.before.before.before.before.given-2.ensures in
-    let zero = c.before.before.before.before.before.before.before.before.before.before.before.before.before.before.before.before.before.before.before.magnitude.ensures ∙ ap nat_abs ((be (got {w = w64} c.before.before.before.before.before.before.before.before.before.before.before.before.before.before.before.before.before.before.before.before.wide.result c.before.before.before.before.before.before.before.before.before.before.before.before.before.before.before.before.before.before.before.before.wide.type-inv) c.before.before.before.before.before.before.before.before.before.before.before.before.before.before.before.before.before.before.before.before.wide.ensures).read ∙ to_z-of_z f.zero) in
-    let keyed = c.before.before.before.before.before.before.before.before.before.before.before.before.before.before.before.magnitude-2.ensures ∙ ap nat_abs ((be (got {w = w64} c.before.before.before.before.before.before.before.before.before.before.before.before.before.before.before.before.difference.result c.before.before.before.before.before.before.before.before.before.before.before.before.before.before.before.before.difference.type-inv) c.before.before.before.before.before.before.before.before.before.before.before.before.before.before.before.before.difference.ensures).read ∙ (λ k. to_z-of_z f.zero k -ℤ to_z-of_z f.tracked k)) in
-    let tracked = c.before.before.before.before.before.before.before.before.before.before.before.before.before.size.ensures ∙ ap nat_abs (to_z-of_z f.tracked) in
-    let allowance = c.before.before.before.before.before.before.before.before.before.before.before.before.given-3.ensures in
-    let time = c.before.before.before.before.before.before.before.before.before.at_least_one.ensures ∙ (λ k. max (c.before.before.before.before.before.before.before.before.before.before.given-4.ensures k) 1) in
-    let tare = c.before.before.before.before.magnitude-3.ensures ∙ ap nat_abs ((be (got {w = w64} c.before.before.before.before.before.wide-2.result c.before.before.before.before.before.wide-2.type-inv) c.before.before.before.before.before.wide-2.ensures).read ∙ to_z-of_z f.tare) in
+    let capacity = c.given-capacity.ensures in
+    let zeroing = c.given.ensures in
+    let division = c.given-2.ensures in
+    let zero = c.magnitude.ensures ∙ ap nat_abs ((be (got {w = w64} c.wide.result c.wide.type_inv) c.wide.ensures).read ∙ to_z-of_z f.zero) in
+    let keyed = c.magnitude-2.ensures ∙ ap nat_abs ((be (got {w = w64} c.difference.result c.difference.type_inv) c.difference.ensures).read ∙ (λ k. to_z-of_z f.zero k -ℤ to_z-of_z f.tracked k)) in
+    let tracked = c.size.ensures ∙ ap nat_abs (to_z-of_z f.tracked) in
+    let allowance = c.given-3.ensures in
+    let time = c.at_least_one.ensures ∙ (λ k. max (c.given-4.ensures k) 1) in
+    let tare = c.magnitude-3.ensures ∙ ap nat_abs ((be (got {w = w64} c.wide-2.result c.wide-2.type_inv) c.wide-2.ensures).read ∙ to_z-of_z f.tare) in
     λ i. leb (zero i) (capacity i * zeroing i / 10)
     && leb (keyed i) (capacity i * zeroing i / 10)
     && leb (tracked i) (allowance i)
     && ltb w.counter (time i)
     && le_z (pos 0) (to_z-of_z f.tare i)
     && leb (tare i) (capacity i * division i)
-    && (c.before.before.before.is_tracking.ensures i || (eqb w.counter 0 && eqb_is {y = pos 0} f.tracked (sfits_of (lit< tt)) i))
+    && (c.is_tracking.ensures i || (eqb w.counter 0 && eqb_is {y = pos 0} f.tracked (sfits_of (lit< tt)) i))
 
 pub is_weighing_spec : {M : Type 1} → statement M
 is_weighing_spec =

@@ -10,8 +10,8 @@ use Rattle.whole.specs.Machine.{fits_of, abs_fits}
 use Rattle.images.proofs.possible.size.Statement.{statement}
 use Rattle.images.proofs.possible.size.Tie as tie
 
-sized : (c : tie.After-magnitude) → c.magnitude.result ≡ nat_abs c.before.before.args.x
-sized c = simp (c.magnitude.ensures, (be (got {w = w64} c.before.wide.result c.before.wide.type-inv) c.before.wide.ensures).read, to_z-of_z c.before.before.ranges.x)
+sized : (c : tie.After-magnitude) → c.magnitude.result ≡ nat_abs c.args.x
+sized c = simp (c.magnitude.ensures, (be (got {w = w64} c.wide.result c.wide.type_inv) c.wide.ensures).read, to_z-of_z c.ranges.x)
 
 wide-requires : tie.Need-wide-requires
 wide-requires c κs = search rules
@@ -20,7 +20,7 @@ magnitude-requires : tie.Need-magnitude-requires
 magnitude-requires c κs = search rules
 
 overflow_cast-result : tie.Need-overflow_cast-result
-overflow_cast-result c = fits_of (omega (arith, sized c, abs_fits w32 c.before.before.ranges.x))
+overflow_cast-result c = fits_of (omega (arith, sized c, abs_fits w32 c.ranges.x))
 
 returns : tie.Need-returns
 returns c = sized c

@@ -36,7 +36,7 @@ returns c =
     let c2 = c3.before in
     let c1 = c2.before in
     (λ i. c1.are_zero.ensures i && c2.are_zero-2.ensures i && c3.are_zero-3.ensures i && c4.are_zero-4.ensures i && c5.are_zero-5.ensures i && c6.are_zero-6.ensures i && c.are_zero-7.ensures i)
-    ∙ unused_state c1.before.before.args.s.now
+    ∙ unused_state c1.args.s.now
 
 pub is_unused_zero_spec : {M : Type 1} → statement M
 is_unused_zero_spec =

@@ -20,10 +20,10 @@ start c = c.before.before.before.before.before
 same : (c : tie.After-is_read_whole) →
     let l = (start c).args.s.now in
     same_bytes (image_of (state_at l)) (filled l) ≡ same_bytes (state_numbers (state_at l)) (get_all state_rows l) && zeros_in (gaps 0 state_length state_rows) l
-same c = written (start c).args.s.now (λ i. (c.before.before.before.before.shared_slice_known-1.given i).fits) (start c).requires
+same c = written (start c).args.s.now (λ i. (c.shared_slice_known-1.given i).fits) (start c).requires
 
 returns-then-s-lt-EARLIER_LENGTH : tie.Need-returns-then-s-lt-EARLIER_LENGTH
-returns-then-s-lt-EARLIER_LENGTH c = let n = long c.before.before.args.s.now c.before.before.requires in absurd (omega (arith, n, c.if-s-lt-EARLIER_LENGTH.true))
+returns-then-s-lt-EARLIER_LENGTH c = let n = long c.args.s.now c.requires in absurd (omega (arith, n, c.if-s-lt-EARLIER_LENGTH.true))
 
 sequence_at-sequence-requires : tie.Need-sequence_at-sequence-requires
 sequence_at-sequence-requires c κs = search rules
@@ -33,9 +33,9 @@ totals_at-totals-requires c κs = search rules
 
 is_read_whole-requires : tie.Need-is_read_whole-requires
 is_read_whole-requires c κs =
-    let l = c.before.before.before.before.args.s.now in
-    let k = c.before.before.before.before.requires in (
-      part_here l k (λ (t : State). t.sequence) c.before.sequence_at-sequence.ensures,
+    let l = c.args.s.now in
+    let k = c.requires in (
+      part_here l k (λ (t : State). t.sequence) c.sequence_at-sequence.ensures,
       part_here l k (λ (t : State). t.totals) c.totals_at-totals.ensures,
     )
 
@@ -50,7 +50,7 @@ is_unused_zero-requires c κs = search rules
 returns : tie.Need-returns
 returns c =
     let r = c.before.before in
-    sym (same r ∙ (λ i. (sym r.is_read_whole.ensures ∙ not-false _ c.before.if-not-is_read_whole.false) i && sym c.is_unused_zero.ensures i))
+    sym (same r ∙ (λ i. (sym r.is_read_whole.ensures ∙ not-false _ c.if-not-is_read_whole.false) i && sym c.is_unused_zero.ensures i))
 
 pub is_written_spec : {M : Type 1} → statement M
 is_written_spec =

@@ -11,59 +11,59 @@ use Rattle.logs.proofs.RunLaws.{digit_within, run_goes, run_stops}
 use Rattle.logs.proofs.numerals.digit_run.Statement.{statement}
 use Rattle.logs.proofs.numerals.digit_run.Tie as tie
 
-abbrev invariant_loop : tie.invariant-loop-i
-invariant_loop part i₀ i = i + digit_run (drop i part) ≡ digit_run part
+abbrev invariant-loop-i : tie.invariant-loop-i
+invariant-loop-i part i₀ i = i + digit_run (drop i part) ≡ digit_run part
 
-abbrev decreases_loop : tie.decreases-loop-i
-decreases_loop part i₀ i = length part - i
+abbrev decreases-loop-i : tie.decreases-loop-i
+decreases-loop-i part i₀ i = length part - i
 
 -- in a turn: the byte that was tested
-module _ (c : tie.After-is_digit invariant_loop decreases_loop) where
-  abbrev L : tie.At-loop-i invariant_loop decreases_loop
+module _ (c : tie.After-is_digit invariant-loop-i decreases-loop-i) where
+  abbrev L : tie.At-loop-i invariant-loop-i decreases-loop-i
   L = c.before.before
 
   abbrev S : List ℕ
   S = L.before.before.args.part.now
 
-  tested : c.is_digit.result ≡ is_digit (get_or S L.loop-i.i 0)
+  tested : c.is_digit.result ≡ is_digit (get_or S L.loop.i 0)
   tested = c.is_digit.ensures ∙ ap is_digit c.before.byte_at.ensures
 
-module _ (c : tie.In-loop-i invariant_loop decreases_loop) where
-  digit : is_digit (get_or (S c.before) (L c.before).loop-i.i 0) ≡ true
-  digit = sym (tested c.before) ∙ c.loop-i-test.true
+module _ (c : tie.In-loop-i invariant-loop-i decreases-loop-i) where
+  digit : is_digit (get_or (S c.before) (L c.before).loop.i 0) ≡ true
+  digit = sym (tested c.before) ∙ c.if1.true
 
-  within : (L c.before).loop-i.i < length (S c.before)
-  within = digit_within (S c.before) (L c.before).loop-i.i digit
+  within : (L c.before).loop.i < length (S c.before)
+  within = digit_within (S c.before) (L c.before).loop.i digit
 
-loop-i-init : tie.Need-loop-i-init invariant_loop decreases_loop
+loop-i-init : tie.Need-loop-i-init invariant-loop-i decreases-loop-i
 loop-i-init c = omega arith
 
-byte_at-requires : tie.Need-byte_at-requires invariant_loop decreases_loop
+byte_at-requires : tie.Need-byte_at-requires invariant-loop-i decreases-loop-i
 byte_at-requires c κs = tt
 
-is_digit-requires : tie.Need-is_digit-requires invariant_loop decreases_loop
+is_digit-requires : tie.Need-is_digit-requires invariant-loop-i decreases-loop-i
 is_digit-requires c κs = tt
 
-overflow_add-i : tie.Need-overflow_add-i invariant_loop decreases_loop
+overflow_add-i : tie.Need-overflow_add-i invariant-loop-i decreases-loop-i
 overflow_add-i c = omega (arith, within c)
 
-loop-i-smaller : tie.Need-loop-i-smaller invariant_loop decreases_loop
+loop-i-smaller : tie.Need-loop-i-smaller invariant-loop-i decreases-loop-i
 loop-i-smaller c = omega (arith, within c)
 
-loop-i-preserved : tie.Need-loop-i-preserved invariant_loop decreases_loop
-loop-i-preserved c = omega (arith, (L c.before).loop-i.inv, run_goes (S c.before) (L c.before).loop-i.i (digit c))
+loop-i-preserved : tie.Need-loop-i-preserved invariant-loop-i decreases-loop-i
+loop-i-preserved c = omega (arith, (L c.before).loop.inv, run_goes (S c.before) (L c.before).loop.i (digit c))
 
-returns : tie.Need-returns invariant_loop decreases_loop
+returns : tie.Need-returns invariant-loop-i decreases-loop-i
 returns c =
     let b = c.before in
-    omega (arith, (L b).loop-i.invariant, run_stops (S b) (L b).loop-i.i (sym (tested b) ∙ c.loop-i-test.false))
+    omega (arith, (L b).loop.invariant, run_stops (S b) (L b).loop.i (sym (tested b) ∙ c.loop-i-test.false))
 
 pub digit_run_spec : {M : Type 1} → statement M
 digit_run_spec =
     tie.close
     (tie.spec
-    invariant_loop
-    decreases_loop
+    invariant-loop-i
+    decreases-loop-i
     loop-i-init
     byte_at-requires
     is_digit-requires

@@ -5,7 +5,7 @@ use Rattle.logs.proofs.numerals.digits_from.Statement.{statement}
 use Rattle.logs.proofs.numerals.digits_from.Tie as tie
 
 overflow_add-result : tie.Need-overflow_add-result
-overflow_add-result c = omega (arith, c.before.requires c.if-minus.true)
+overflow_add-result c = omega (arith, c.requires c.if-minus.true)
 
 returns-then-minus : tie.Need-returns-then-minus
 returns-then-minus c = simp (c.if-minus.true, add-one)

@@ -28,19 +28,19 @@ module _ (c : tie.After-digit_run-n) where
   L = S.args.line.now
 
   abbrev F : ℕ
-  F = c.before.before.digits_from-from.result
+  F = c.digits_from-from.result
 
   abbrev D : List ℕ
-  D = c.before.part-digits.result.now
+  D = c.part-digits.result.now
 
   abbrev N : ℕ
   N = c.digit_run-n.result
 
   begins : F ≡ digits_from L S.args.at
-  begins = c.before.before.digits_from-from.ensures ∙ ap (λ (b : ℕ). cond (eqb b 45) (suc S.args.at) S.args.at) c.before.before.before.byte_at-minus.ensures
+  begins = c.digits_from-from.ensures ∙ ap (λ (b : ℕ). cond (eqb b 45) (suc S.args.at) S.args.at) c.byte_at-minus.ensures
 
   digits : D ≡ drop F L
-  digits = c.before.part-digits.ensures ∙ part_to_end L F
+  digits = c.part-digits.ensures ∙ part_to_end L F
 
   few : N ≤ digit_run D
   few = omega (arith, c.digit_run-n.ensures)
@@ -50,7 +50,7 @@ byte_at-minus-requires c κs = tt
 
 digits_from-from-requires : tie.Need-digits_from-from-requires
 digits_from-from-requires c κs h =
-    let s = c.before.before.args in
+    let s = c.args in
     omega (arith, minus_within s.line.now s.at (ap (λ (b : ℕ). eqb b 45) (sym c.byte_at-minus.ensures) ∙ h))
 
 part-digits-requires : tie.Need-part-digits-requires
@@ -60,24 +60,24 @@ digit_run-n-requires : tie.Need-digit_run-n-requires
 digit_run-n-requires c κs = tt
 
 value_of-requires : tie.Need-value_of-requires
-value_of-requires c κs = (omega arith, few c.before.before)
+value_of-requires c κs = (omega arith, few c.before)
 
 signed-requires : tie.Need-signed-requires
 signed-requires c κs =
-    let g = c.before.before.before in
+    let g = c.before.before in
     omega (arith, c.value_of_lem.ensures, value_limit (D g) (N g) 9 (few g) (omega arith))
 
 overflow_add-result : tie.Need-overflow_add-result
 overflow_add-result c =
-    let g = c.before.before.before.before in
+    let g = c.before.before.before in
     omega (arith, few g, run_length (D g), ap length (digits g), length-drop (F g) (L g))
 
 returns-in-1-to-9 : tie.Need-returns-in-1-to-9
 returns-in-1-to-9 c =
-    let g = c.before.before.before.before in
-    ap (λ (z : ℤ). Number z (F g + N g)) (to_z-of_z (sfits_of {w = w32} c.signed.type-inv))
+    let g = c.before.before.before in
+    ap (λ (z : ℤ). Number z (F g + N g)) (to_z-of_z (sfits_of {w = w32} c.signed.type_inv))
     ∙ number_read (L g) (S g).args.at _ _ _ (begins g) (digits g) g.digit_run-n.ensures _
-    (c.signed.ensures ∙ simp (c.before.value_of_lem.ensures, g.before.before.before.byte_at-minus.ensures)) (omega arith) (omega arith)
+    (c.signed.ensures ∙ simp (c.value_of_lem.ensures, g.byte_at-minus.ensures)) (omega arith) (omega arith)
 
 returns-in_default : tie.Need-returns-in_default
 returns-in_default c =
@@ -86,7 +86,7 @@ returns-in_default c =
 
 returns-in_default-2 : tie.Need-returns-in_default-2
 returns-in_default-2 c =
-    let g = c.before.before in
+    let g = c.before in
     many_digits (L g) (S g).args.at _ _ _ (begins g) (digits g) g.digit_run-n.ensures (omega arith)
 
 pub number_at_spec : {M : Type 1} → statement M

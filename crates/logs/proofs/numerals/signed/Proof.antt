@@ -25,7 +25,7 @@ overflow_cast-n : tie.Need-overflow_cast-n
 overflow_cast-n c = sfits_of (small c)
 
 overflow_sub-result : tie.Need-overflow_sub-result
-overflow_sub-result c = sub_need none (nat (small c.before)) (minus_fits c.before.args.v (small c.before))
+overflow_sub-result c = sub_need none (nat (small c.before)) (minus_fits c.args.v (small c.before))
 
 returns-then-minus : tie.Need-returns-then-minus
 returns-then-minus c =

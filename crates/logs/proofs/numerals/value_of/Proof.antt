@@ -9,73 +9,73 @@ use Rattle.logs.proofs.RunLaws.{run_length, byte_range, value_more, value_limit}
 use Rattle.logs.proofs.numerals.value_of.Statement.{statement}
 use Rattle.logs.proofs.numerals.value_of.Tie as tie
 
-abbrev invariant_loop : tie.invariant-loop-i
-invariant_loop part n v₀ i₀ v i = (i ≤ n) × (v ≡ value_from 0 (take i part))
+abbrev invariant-loop-i : tie.invariant-loop-i
+invariant-loop-i part n v₀ i₀ v i = (i ≤ n) × (v ≡ value_from 0 (take i part))
 
-abbrev decreases_loop : tie.decreases-loop-i
-decreases_loop part n v₀ i₀ v i = n - i
+abbrev decreases-loop-i : tie.decreases-loop-i
+decreases-loop-i part n v₀ i₀ v i = n - i
 
 -- in a turn: the next byte is a digit, and the number has eight digits at most
-module _ (c : tie.In-loop-i invariant_loop decreases_loop) where
-  abbrev P : tie.Start invariant_loop decreases_loop
+module _ (c : tie.In-loop-i invariant-loop-i decreases-loop-i) where
+  abbrev P : tie.Start invariant-loop-i decreases-loop-i
   P = c.before.before.before
 
   abbrev S : List ℕ
   S = P.args.part.now
 
   abbrev I : ℕ
-  I = c.before.loop-i.i
+  I = c.before.loop.i
 
   left : I < digit_run S
-  left = omega (arith, P.pre, c.loop-i-test.true)
+  left = omega (arith, P.pre, c.loop-test.true)
 
-  small : c.before.loop-i.v < 100000000
-  small = rw c.before.loop-i.invariant.1 (value_limit S I 8 (omega (arith, left)) (omega (arith, P.pre, c.loop-i-test.true)))
+  small : c.before.loop.v < 100000000
+  small = rw c.before.loop.invariant.1 (value_limit S I 8 (omega (arith, left)) (omega (arith, P.pre, c.loop-test.true)))
 
 -- what was read of it
-range : (c : tie.After-byte_at invariant_loop decreases_loop) → (48 ≤ c.byte_at.result) × (c.byte_at.result ≤ 57)
+range : (c : tie.After-byte_at invariant-loop-i decreases-loop-i) → (48 ≤ c.byte_at.result) × (c.byte_at.result ≤ 57)
 range c = rw c.byte_at.ensures (byte_range (S c.before) (I c.before) (left c.before))
 
-loop-i-init : tie.Need-loop-i-init invariant_loop decreases_loop
+loop-i-init : tie.Need-loop-i-init invariant-loop-i decreases-loop-i
 loop-i-init c = (zero-le, refl)
 
-overflow_mul-v : tie.Need-overflow_mul-v invariant_loop decreases_loop
+overflow_mul-v : tie.Need-overflow_mul-v invariant-loop-i decreases-loop-i
 overflow_mul-v c = omega (arith, small c)
 
-byte_at-requires : tie.Need-byte_at-requires invariant_loop decreases_loop
+byte_at-requires : tie.Need-byte_at-requires invariant-loop-i decreases-loop-i
 byte_at-requires c κs = tt
 
-overflow_sub-v : tie.Need-overflow_sub-v invariant_loop decreases_loop
+overflow_sub-v : tie.Need-overflow_sub-v invariant-loop-i decreases-loop-i
 overflow_sub-v c = (range c).0
 
-overflow_cast-v : tie.Need-overflow_cast-v invariant_loop decreases_loop
+overflow_cast-v : tie.Need-overflow_cast-v invariant-loop-i decreases-loop-i
 overflow_cast-v c = omega (arith, range c)
 
-overflow_add-v : tie.Need-overflow_add-v invariant_loop decreases_loop
+overflow_add-v : tie.Need-overflow_add-v invariant-loop-i decreases-loop-i
 overflow_add-v c = omega (arith, small c.before, range c)
 
-overflow_add-i : tie.Need-overflow_add-i invariant_loop decreases_loop
-overflow_add-i c = omega (arith, c.before.loop-i-test.true)
+overflow_add-i : tie.Need-overflow_add-i invariant-loop-i decreases-loop-i
+overflow_add-i c = omega (arith, c.loop-i-test.true)
 
-loop-i-smaller : tie.Need-loop-i-smaller invariant_loop decreases_loop
-loop-i-smaller c = omega (arith, c.before.loop-i-test.true)
+loop-i-smaller : tie.Need-loop-i-smaller invariant-loop-i decreases-loop-i
+loop-i-smaller c = omega (arith, c.loop-i-test.true)
 
-loop-i-preserved : tie.Need-loop-i-preserved invariant_loop decreases_loop
+loop-i-preserved : tie.Need-loop-i-preserved invariant-loop-i decreases-loop-i
 loop-i-preserved c =
     let t = c.before in
-    (omega (arith, t.loop-i-test.true), sym (value_more (S t) (I t) (omega (arith, left t, run_length (S t))) ∙ simp (← t.before.loop-i.invariant.1, ← c.byte_at.ensures)))
+    (omega (arith, t.loop-i-test.true), sym (value_more (S t) (I t) (omega (arith, left t, run_length (S t))) ∙ simp (← t.loop-i.invariant.1, ← c.byte_at.ensures)))
 
-returns : tie.Need-returns invariant_loop decreases_loop
+returns : tie.Need-returns invariant-loop-i decreases-loop-i
 returns c =
-    let whole : c.before.loop-i.i ≡ c.before.before.before.args.n = omega (arith, c.before.loop-i.invariant.0, c.loop-i-test.false) in
-    c.before.loop-i.invariant.1 ∙ simp whole
+    let whole : c.loop-i.i ≡ c.args.n = omega (arith, c.loop-i.invariant.0, c.loop-i-test.false) in
+    c.loop-i.invariant.1 ∙ simp whole
 
 pub value_of_spec : {M : Type 1} → statement M
 value_of_spec =
     tie.close
     (tie.spec
-    invariant_loop
-    decreases_loop
+    invariant-loop-i
+    decreases-loop-i
     loop-i-init
     overflow_mul-v
     byte_at-requires

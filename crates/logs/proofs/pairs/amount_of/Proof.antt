@@ -11,7 +11,7 @@ magnitude-requires : tie.Need-magnitude-requires
 magnitude-requires c κs = search rules
 
 returns : tie.Need-returns
-returns c = simp (c.before.below.ensures, c.magnitude.ensures, to_z-of_z c.before.before.ranges.n)
+returns c = simp (c.below.ensures, c.magnitude.ensures, to_z-of_z c.ranges.n)
 
 pub amount_of_spec : {M : Type 1} → statement M
 amount_of_spec = tie.close (tie.spec below-requires magnitude-requires returns)

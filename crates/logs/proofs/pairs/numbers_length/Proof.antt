@@ -13,71 +13,71 @@ use Rattle.logs.proofs.TextLaws.{number_length, numbers_few, numbers_end, number
 use Rattle.logs.proofs.pairs.numbers_length.Statement.{statement}
 use Rattle.logs.proofs.pairs.numbers_length.Tie as tie
 
-abbrev invariant_loop : tie.invariant-loop-i
-invariant_loop lines amounts n₀ i₀ n i = n + length (number_lines (drop i (take lines amounts))) ≡ length (number_lines (take lines amounts))
+abbrev invariant-loop-i : tie.invariant-loop-i
+invariant-loop-i lines amounts n₀ i₀ n i = n + length (number_lines (drop i (take lines amounts))) ≡ length (number_lines (take lines amounts))
 
-abbrev decreases_loop : tie.decreases-loop-i
-decreases_loop lines amounts n₀ i₀ n i = lines - i
+abbrev decreases-loop-i : tie.decreases-loop-i
+decreases-loop-i lines amounts n₀ i₀ n i = lines - i
 
-loop-i-init : tie.Need-loop-i-init invariant_loop decreases_loop
+loop-i-init : tie.Need-loop-i-init invariant-loop-i decreases-loop-i
 loop-i-init c = omega arith
 
-eight : (s : tie.Start invariant_loop decreases_loop) → length s.args.t1 ≡ 8
+eight : (s : tie.Start invariant-loop-i decreases-loop-i) → length s.args.t1 ≡ 8
 eight s = search rules
 
-held : (s : tie.Start invariant_loop decreases_loop) → length (take s.args.lines s.args.t1) ≡ s.args.lines
+held : (s : tie.Start invariant-loop-i decreases-loop-i) → length (take s.args.lines s.args.t1) ≡ s.args.lines
 held s = length-take-le s.args.lines s.args.t1 (rw (eight s) s.requires)
 
 -- in a turn: the number, and the bound that all of them have
-module _ (c : tie.In-loop-i invariant_loop decreases_loop) where
-  abbrev L : tie.At-loop-i invariant_loop decreases_loop
+module _ (c : tie.In-loop-i invariant-loop-i decreases-loop-i) where
+  abbrev L : tie.At-loop-i invariant-loop-i decreases-loop-i
   L = c.before
 
-  abbrev S : tie.Start invariant_loop decreases_loop
+  abbrev S : tie.Start invariant-loop-i decreases-loop-i
   S = L.before
 
   short : length (number_lines (take S.args.lines S.args.t1)) ≤ 176
   short = numbers_few S.args.t1 S.args.lines S.pre
 
   abbrev A : Amount
-  A = get_or S.args.t1 L.loop-i.i (count_of 0)
+  A = get_or S.args.t1 L.loop.i (count_of 0)
 
-  next : length (number_lines (drop L.loop-i.i (take S.args.lines S.args.t1))) ≡ cond A.minus 1 0 + length (decimal_text A.size) + 1 + length (number_lines (drop (L.loop-i.i + 1) (take S.args.lines S.args.t1)))
-  next = omega (arith, numbers_more S.args.t1 L.loop-i.i S.args.lines (count_of 0) (rw (held S) c.loop-i-test.true) c.loop-i-test.true, number_length A)
+  next : length (number_lines (drop L.loop.i (take S.args.lines S.args.t1))) ≡ cond A.minus 1 0 + length (decimal_text A.size) + 1 + length (number_lines (drop (L.loop.i + 1) (take S.args.lines S.args.t1)))
+  next = omega (arith, numbers_more S.args.t1 L.loop.i S.args.lines (count_of 0) (rw (held S) c.loop-test.true) c.loop-test.true, number_length A)
 
-offset_bounds-amounts-i : tie.Need-offset_bounds-amounts-i invariant_loop decreases_loop
+offset_bounds-amounts-i : tie.Need-offset_bounds-amounts-i invariant-loop-i decreases-loop-i
 offset_bounds-amounts-i c = omega (arith, c.loop-i-test.true, (S c).requires)
 
-bounds-amounts-i : tie.Need-bounds-amounts-i invariant_loop decreases_loop
+bounds-amounts-i : tie.Need-bounds-amounts-i invariant-loop-i decreases-loop-i
 bounds-amounts-i c = omega (arith, c.loop-i-test.true, (S c).requires)
 
-sign_length-requires : tie.Need-sign_length-requires invariant_loop decreases_loop
+sign_length-requires : tie.Need-sign_length-requires invariant-loop-i decreases-loop-i
 sign_length-requires c κs = tt
 
-overflow_add-n : tie.Need-overflow_add-n invariant_loop decreases_loop
-overflow_add-n c = let t = c.before.before in omega (arith, (L t).loop-i.invariant, next t, short t, c.sign_length.ensures)
+overflow_add-n : tie.Need-overflow_add-n invariant-loop-i decreases-loop-i
+overflow_add-n c = let t = c.before.before in omega (arith, (L t).loop.invariant, next t, short t, c.sign_length.ensures)
 
-digit_count-requires : tie.Need-digit_count-requires invariant_loop decreases_loop
+digit_count-requires : tie.Need-digit_count-requires invariant-loop-i decreases-loop-i
 digit_count-requires c κs = tt
 
-overflow_add-n-in-loop-i : tie.Need-overflow_add-n-in-loop-i invariant_loop decreases_loop
-overflow_add-n-in-loop-i c = let t = c.before.before.before in omega (arith, (L t).loop-i.invariant, next t, short t, c.before.sign_length.ensures, c.digit_count.ensures)
+overflow_add-n-in-loop-i : tie.Need-overflow_add-n-in-loop-i invariant-loop-i decreases-loop-i
+overflow_add-n-in-loop-i c = let t = c.before.before.before in omega (arith, (L t).loop.invariant, next t, short t, c.sign_length.ensures, c.digit_count.ensures)
 
-overflow_add-n-in-loop-i-2 : tie.Need-overflow_add-n-in-loop-i-2 invariant_loop decreases_loop
-overflow_add-n-in-loop-i-2 c = let t = c.before.before.before in omega (arith, (L t).loop-i.invariant, next t, short t, c.before.sign_length.ensures, c.digit_count.ensures)
+overflow_add-n-in-loop-i-2 : tie.Need-overflow_add-n-in-loop-i-2 invariant-loop-i decreases-loop-i
+overflow_add-n-in-loop-i-2 c = let t = c.before.before.before in omega (arith, (L t).loop.invariant, next t, short t, c.sign_length.ensures, c.digit_count.ensures)
 
-overflow_add-i : tie.Need-overflow_add-i invariant_loop decreases_loop
+overflow_add-i : tie.Need-overflow_add-i invariant-loop-i decreases-loop-i
 overflow_add-i c = let t = c.before.before.before in omega (arith, t.loop-i-test.true, (S t).requires)
 
-loop-i-smaller : tie.Need-loop-i-smaller invariant_loop decreases_loop
+loop-i-smaller : tie.Need-loop-i-smaller invariant-loop-i decreases-loop-i
 loop-i-smaller c = let t = c.before.before.before in omega (arith, t.loop-i-test.true)
 
-loop-i-preserved : tie.Need-loop-i-preserved invariant_loop decreases_loop
-loop-i-preserved c = let t = c.before.before.before in omega (arith, (L t).loop-i.invariant, next t, c.before.sign_length.ensures, c.digit_count.ensures)
+loop-i-preserved : tie.Need-loop-i-preserved invariant-loop-i decreases-loop-i
+loop-i-preserved c = let t = c.before.before.before in omega (arith, (L t).loop.invariant, next t, c.sign_length.ensures, c.digit_count.ensures)
 
-returns : tie.Need-returns invariant_loop decreases_loop
+returns : tie.Need-returns invariant-loop-i decreases-loop-i
 returns c =
-    let l = c.before.loop-i in
+    let l = c.loop-i in
     let s = c.before.before in
     omega (arith, l.invariant, numbers_end (take s.args.lines s.args.t1) l.i (rw (held s) c.loop-i-test.false))
 
@@ -85,8 +85,8 @@ pub numbers_length_spec : {M : Type 1} → statement M
 numbers_length_spec =
     tie.close
     (tie.spec
-    invariant_loop
-    decreases_loop
+    invariant-loop-i
+    decreases-loop-i
     loop-i-init
     offset_bounds-amounts-i
     bounds-amounts-i

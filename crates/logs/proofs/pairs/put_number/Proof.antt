@@ -28,29 +28,29 @@ module _ (d : tie.After-digits_at-next) where
   A = S.args.a
 
   abbrev D : List ℕ
-  D = digits_of d.before.digit_count.result A.size
+  D = digits_of d.digit_count.result A.size
 
   digits : D ≡ decimal_text A.size
-  digits = ap (λ (k : ℕ). digits_of k A.size) d.before.digit_count.ensures ∙ decimal_digits_lem A.size
+  digits = ap (λ (k : ℕ). digits_of k A.size) d.digit_count.ensures ∙ decimal_digits_lem A.size
 
-  room : S.args.at + d.before.before.sign_length.result + length D ≤ length (set S.args.out-1.now S.args.at 45)
-  room = rw length-set (omega (arith, length_digits d.before.digit_count.result A.size, d.before.digit_count.ensures, d.before.before.sign_length.ensures, number_length A, S.pre))
+  room : S.args.at + d.sign_length.result + length D ≤ length (set S.args.out.now S.args.at 45)
+  room = rw length-set (omega (arith, length_digits d.digit_count.result A.size, d.digit_count.ensures, d.sign_length.ensures, number_length A, S.pre))
 
-  put : Put (set S.args.out-1.now S.args.at 45) (S.args.at + d.before.before.sign_length.result) (decimal_text A.size) d.digits_at-next.last.0 d.digits_at-next.result (length D)
-  put = same digits (put_fits (set S.args.out-1.now S.args.at 45) (S.args.at + d.before.before.sign_length.result) D room d.digits_at-next.ensures.0 d.digits_at-next.ensures.1)
+  put : Put (set S.args.out.now S.args.at 45) (S.args.at + d.sign_length.result) (decimal_text A.size) d.digits_at-next.last.0 d.digits_at-next.result (length D)
+  put = same digits (put_fits (set S.args.out.now S.args.at 45) (S.args.at + d.sign_length.result) D room d.digits_at-next.ensures.0 d.digits_at-next.ensures.1)
 
-  signed : Put S.args.out-1.now S.args.at (cond A.minus (45 ∷ []) [] ++ decimal_text A.size) d.digits_at-next.last.0 d.digits_at-next.result (cond A.minus 1 0 + length (decimal_text A.size))
+  signed : Put S.args.out.now S.args.at (cond A.minus (45 ∷ []) [] ++ decimal_text A.size) d.digits_at-next.last.0 d.digits_at-next.result (cond A.minus 1 0 + length (decimal_text A.size))
   signed = record {
-    stored = put.stored ∙ ap (λ (k : ℕ). sets (set S.args.out-1.now S.args.at 45) (S.args.at + k) (decimal_text A.size)) d.before.before.sign_length.ensures ∙ signed_sets A.minus S.args.out-1.now S.args.at (decimal_text A.size) (decimal_some A.size);
-    behind = omega (arith, put.behind, put.long, d.before.before.sign_length.ensures);
+    stored = put.stored ∙ ap (λ (k : ℕ). sets (set S.args.out.now S.args.at 45) (S.args.at + k) (decimal_text A.size)) d.sign_length.ensures ∙ signed_sets A.minus S.args.out.now S.args.at (decimal_text A.size) (decimal_some A.size);
+    behind = omega (arith, put.behind, put.long, d.sign_length.ensures);
     long = simp (length-append, sign_length);
   }
 
-  end : d.digits_at-next.result + 1 ≤ length S.args.out-1.now
+  end : d.digits_at-next.result + 1 ≤ length S.args.out.now
   end = omega (arith, signed.behind, number_length A, S.pre)
 
 bounds-out-at : tie.Need-bounds-out-at
-bounds-out-at c = omega (arith, number_length c.before.args.a, c.before.requires)
+bounds-out-at c = omega (arith, number_length c.args.a, c.requires)
 
 sign_length-requires : tie.Need-sign_length-requires
 sign_length-requires c κs = tt

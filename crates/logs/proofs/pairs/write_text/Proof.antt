@@ -27,7 +27,7 @@ module _ (c : tie.After-numbers_length) where
       ∙ ap (λ (n : ℕ). length K + n) (sym c.numbers_length.ensures)
 
 numbers_length-requires : tie.Need-numbers_length-requires
-numbers_length-requires c κs = c.before.before.requires.1
+numbers_length-requires c κs = c.requires.1
 
 overflow_add-keys : tie.Need-overflow_add-keys
 overflow_add-keys c = omega (arith, (S c).requires, c.numbers_length.ensures, numbers_few (S c).args.amounts (S c).args.lines (S c).requires.1)
@@ -36,7 +36,7 @@ returns-then-out-keys : tie.Need-returns-then-out-keys
 returns-then-out-keys c = unfitted _ _ (omega (arith, size c.before, c.if-out-keys.true))
 
 put_text-requires : tie.Need-put_text-requires
-put_text-requires c κs = let n = c.before.before in (omega (arith, (S n).requires), omega (arith, size n, c.before.if-out-keys.false))
+put_text-requires c κs = let n = c.before.before in (omega (arith, (S n).requires), omega (arith, size n, c.if-out-keys.false))
 
 shape_of-out : tie.Need-shape_of-out
 shape_of-out c = search rules
@@ -45,7 +45,7 @@ returns : tie.Need-returns
 returns c =
     let put = c.before.before in
     let n = put.before.before.before in
-    fitted put.put_text.ensures (omega (arith, size n, put.before.before.if-out-keys.false))
+    fitted put.put_text.ensures (omega (arith, size n, put.if-out-keys.false))
 
 pub write_text_spec : {M : Type 1} → statement M
 write_text_spec =

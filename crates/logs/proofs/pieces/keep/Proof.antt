@@ -9,52 +9,52 @@ use Rattle.logs.proofs.Turns.{moved_by, between_within, taken_whole, read, move}
 use Rattle.logs.proofs.pieces.keep.Statement.{statement}
 use Rattle.logs.proofs.pieces.keep.Tie as tie
 
-abbrev invariant_loop : tie.invariant-loop-i
-invariant_loop space₀ from all kept i₀ space i =
+abbrev invariant-loop-i : tie.invariant-loop-i
+invariant-loop-i space₀ from all kept i₀ space i =
     (i ≤ kept) × (kept ≡ length (between space₀ from all)) × (kept ≤ length space₀ - from) × (length space ≡ length space₀) × (space ≡ moved_by space₀ from i)
 
-abbrev decreases_loop : tie.decreases-loop-i
-decreases_loop space₀ from all kept i₀ space i = kept - i
+abbrev decreases-loop-i : tie.decreases-loop-i
+decreases-loop-i space₀ from all kept i₀ space i = kept - i
 
-part-kept-requires : tie.Need-part-kept-requires invariant_loop decreases_loop
+part-kept-requires : tie.Need-part-kept-requires invariant-loop-i decreases-loop-i
 part-kept-requires c κs = tt
 
-loop-i-init : tie.Need-loop-i-init invariant_loop decreases_loop
+loop-i-init : tie.Need-loop-i-init invariant-loop-i decreases-loop-i
 loop-i-init c =
     let a = c.before.before.before.args in
     let e = ap length c.part-kept.ensures in
     (zero-le, e, omega (arith, e, between_within a.space.now a.from a.all), refl, refl)
 
 -- in a turn: both places are within the buffer
-module _ (c : tie.In-loop-i invariant_loop decreases_loop) where
-  abbrev L : tie.At-loop-i invariant_loop decreases_loop
+module _ (c : tie.In-loop-i invariant-loop-i decreases-loop-i) where
+  abbrev L : tie.At-loop-i invariant-loop-i decreases-loop-i
   L = c.before
 
-  abbrev A : tie.Start invariant_loop decreases_loop
+  abbrev A : tie.Start invariant-loop-i decreases-loop-i
   A = L.before.before.before.before
 
-  within : A.args.from + L.loop-i.i < length A.args.space.now
-  within = omega (arith, c.loop-i-test.true, L.loop-i.inv.2)
+  within : A.args.from + L.loop.i < length A.args.space.now
+  within = omega (arith, c.loop-test.true, L.loop.inv.2)
 
-overflow_add-space : tie.Need-overflow_add-space invariant_loop decreases_loop
+overflow_add-space : tie.Need-overflow_add-space invariant-loop-i decreases-loop-i
 overflow_add-space c = search rules
 
-bounds-space-from : tie.Need-bounds-space-from invariant_loop decreases_loop
+bounds-space-from : tie.Need-bounds-space-from invariant-loop-i decreases-loop-i
 bounds-space-from c = search rules
 
-bounds-space-i : tie.Need-bounds-space-i invariant_loop decreases_loop
+bounds-space-i : tie.Need-bounds-space-i invariant-loop-i decreases-loop-i
 bounds-space-i c = search rules
 
-overflow_add-i : tie.Need-overflow_add-i invariant_loop decreases_loop
+overflow_add-i : tie.Need-overflow_add-i invariant-loop-i decreases-loop-i
 overflow_add-i c = search rules
 
-loop-i-smaller : tie.Need-loop-i-smaller invariant_loop decreases_loop
-loop-i-smaller c = omega (arith, c.before.loop-i-test.true)
+loop-i-smaller : tie.Need-loop-i-smaller invariant-loop-i decreases-loop-i
+loop-i-smaller c = omega (arith, c.loop-i-test.true)
 
-loop-i-preserved : tie.Need-loop-i-preserved invariant_loop decreases_loop
+loop-i-preserved : tie.Need-loop-i-preserved invariant-loop-i decreases-loop-i
 loop-i-preserved c =
     let t = c.before in
-    let l = (L t).loop-i in
+    let l = (L t).loop in
     let a = (A t).args in (
       omega (arith, t.loop-i-test.true),
       l.inv.1,
@@ -63,10 +63,10 @@ loop-i-preserved c =
       rw (l.inv.4, read a.space.now a.from l.i (within t)) (move a.space.now a.from l.i (within t)),
     )
 
-shape_of-space : tie.Need-shape_of-space invariant_loop decreases_loop
-shape_of-space c = c.before.loop-i.invariant.3
+shape_of-space : tie.Need-shape_of-space invariant-loop-i decreases-loop-i
+shape_of-space c = c.loop-i.invariant.3
 
-returns : tie.Need-returns invariant_loop decreases_loop
+returns : tie.Need-returns invariant-loop-i decreases-loop-i
 unfolding kept_in
 returns c =
     let l = c.before in
@@ -79,8 +79,8 @@ pub keep_spec : {M : Type 1} → statement M
 keep_spec =
     tie.close
     (tie.spec
-    invariant_loop
-    decreases_loop
+    invariant-loop-i
+    decreases-loop-i
     part-kept-requires
     loop-i-init
     overflow_add-space

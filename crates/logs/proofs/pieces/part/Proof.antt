@@ -67,10 +67,10 @@ slice-bounds-result-end c = search rules
 
 returns : tie.Need-returns
 returns c =
-    let f = c.before.lesser-from in
-    let e = c.before.before.lesser-end in
-    let a = c.before.before.before.before.args in
-    clipped a.bytes.now a.from a.end f.result-1 e.result-1 e.ensures f.ensures
+    let f = c.lesser-from in
+    let e = c.lesser-end in
+    let a = c.args in
+    clipped a.bytes.now a.from a.end f.result e.result e.ensures f.ensures
 
 pub part_spec : {M : Type 1} → statement M
 part_spec =

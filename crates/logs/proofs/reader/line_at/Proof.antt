@@ -21,7 +21,7 @@ returns : tie.Need-returns
 unfolding line_at
 returns c =
     let l = c.before.before in
-    simp (c.log_line-said.ensures, c.before.part.ensures, l.next_lf-end.ensures, l.before.part-held.ensures, sub-zero)
+    simp (c.log_line-said.ensures, c.part.ensures, l.next_lf-end.ensures, l.part-held.ensures, sub-zero)
 
 pub line_at_spec : {M : Type 1} → statement M
 line_at_spec = tie.close (tie.spec part-held-requires next_lf-end-requires part-requires log_line-said-requires returns)

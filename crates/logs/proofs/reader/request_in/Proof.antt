@@ -21,9 +21,9 @@ part-requires-2 c κs = search rules
 
 returns : tie.Need-returns
 returns c =
-    let a = c.before.before.before.before.args in
+    let a = c.args in
     c.part-2.ensures
-    ∙ simp c.before.part.ensures (to_end (drop a.line.from a.space.now) a.line.from a.line.end a.line.said-1.request)
+    ∙ simp c.part.ensures (to_end (drop a.line.from a.space.now) a.line.from a.line.end a.line.said.request)
 
 pub request_in_spec : {M : Type 1} → statement M
 request_in_spec = tie.close (tie.spec part-requires part-requires-2 returns)

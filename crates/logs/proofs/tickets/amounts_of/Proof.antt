@@ -65,7 +65,7 @@ returns c =
     let o = r.before.before in
     simp (
       o.amount_of.ensures,
-      o.before.wide.ensures,
+      o.wide.ensures,
       to_z-of_z (opening s),
       to_z-of_z (wider (opening s)),
       r.amount_of-2.ensures,
@@ -75,11 +75,11 @@ returns c =
       n.amount_of-4.ensures,
       to_z-of_z (unbooked s),
       l.amount_of-5.ensures,
-      l.before.wide-2.ensures,
+      l.wide-2.ensures,
       to_z-of_z (last s),
       to_z-of_z (wider (last s)),
       c.amount_of-6.ensures,
-      c.before.wide-3.ensures,
+      c.wide-3.ensures,
       to_z-of_z (tracked s),
       to_z-of_z (wider (tracked s)),
     )

@@ -18,7 +18,7 @@ shape_of-out c = search rules
 returns : tie.Need-returns
 returns c =
     let w = c.before.before in
-    rw (← refused_line w.before.before.before.before.args.number) w.write_text.ensures
+    rw (← refused_line w.args.number) w.write_text.ensures
 
 pub write_refused_spec : {M : Type 1} → statement M
 write_refused_spec =

@@ -8,11 +8,11 @@ use Rattle.logs.proofs.tickets.write_ticket.Tie as tie
 enum_known-closed : tie.Need-enum_known-closed
 enum_known-closed c = search rules
 
-enum_told : tie.Need-enum_told-1
-enum_told c = search rules
+enum_told-1 : tie.Need-enum_told-1
+enum_told-1 c = search rules
 
 returns-in_default : tie.Need-returns-in_default
-returns-in_default c = simp (c.enum_told-1.given.1, ticket_none) (nothing _)
+returns-in_default c = simp (c.in_default.is, ticket_none) (nothing _)
 
 slice-aggregate-write-text : tie.Need-slice-aggregate-write-text
 slice-aggregate-write-text c = search rules
@@ -31,15 +31,15 @@ returns : tie.Need-returns
 returns c =
     let w = c.before.before in
     let d = w.before.before.before.before.before in
-    let a = d.before.before.before.args in
-    rw (← ticket_lines a.weighing a.totals _ d.closed-1.given.1 w.before.amounts_of.ensures) w.write_text.ensures
+    let a = d.args in
+    rw (← ticket_lines a.weighing a.totals _ d.in-Day.is w.amounts_of.ensures) w.write_text.ensures
 
 pub write_ticket_spec : {M : Type 1} → statement M
 write_ticket_spec =
     tie.close
     (tie.spec
     enum_known-closed
-    enum_told
+    enum_told-1
     returns-in_default
     slice-aggregate-write-text
     amounts_of-requires

@@ -13,14 +13,14 @@ use Rattle.logs.proofs.TickLaws.{none, none_bytes, command, command-bytes}
 use Rattle.logs.proofs.ticks.request_tick.Statement.{statement}
 use Rattle.logs.proofs.ticks.request_tick.Tie as tie
 
-few : (c : tie.After-receive-1) → length c.before.part-command.result.now ≤ request_limit
-few c = cut c.before.before.before.before.before.before.args.request.now _ c.before.part-command.ensures
+few : (c : tie.After-receive-1) → length c.part-command.result.now ≤ request_limit
+few c = cut c.args.request.now _ c.part-command.ensures
 
-held : (c : tie.After-put_received-n) → take c.put_received-n.result c.put_received-n.new.0 ≡ received_of c.before.before.before.before.before.before.before.args.request.now
+held : (c : tie.After-put_received-n) → take c.put_received-n.result c.put_received-n.new.0 ≡ received_of c.args.request.now
 held c =
     ap (λ (n : ℕ). take n c.put_received-n.new.0) c.put_received-n.ensures.0
     ∙ c.put_received-n.ensures.1
-    ∙ ap with_cr_lf c.before.before.part-command.ensures
+    ∙ ap with_cr_lf c.part-command.ensures
 
 is_none-requires : tie.Need-is_none-requires
 is_none-requires c κs = search rules
@@ -30,10 +30,10 @@ lineless_tick-requires c κs = search rules
 
 returns-then-is_none : tie.Need-returns-then-is_none
 returns-then-is_none c =
-    let a = c.before.before.before.before.before.args in
-    let q = to_z-of_z c.before.before.before.before.before.ranges.count in
-    let n = sym c.before.before.is_none.ensures ∙ c.before.if-is_none.true in
-    (none a.s a.st a.contact a.request.now a.reply-1.now q n c.lineless_tick.ensures, none_bytes a.s a.st a.contact a.request.now a.reply-1.now q n)
+    let a = c.args in
+    let q = to_z-of_z c.ranges.count in
+    let n = sym c.is_none.ensures ∙ c.if-is_none.true in
+    (none a.s a.st a.contact a.request.now a.reply.now q n c.lineless_tick.ensures, none_bytes a.s a.st a.contact a.request.now a.reply.now q n)
 
 part-command-requires : tie.Need-part-command-requires
 part-command-requires c κs = search rules
@@ -45,7 +45,7 @@ put_received-n-requires : tie.Need-put_received-n-requires
 put_received-n-requires c κs = omega (arith, few c)
 
 slice_bounds-receive-end : tie.Need-slice_bounds-receive-end
-slice_bounds-receive-end c = omega (arith, few c.before.before, c.before.put_received-n.ensures.0)
+slice_bounds-receive-end c = omega (arith, few c.before.before, c.put_received-n.ensures.0)
 
 slice_bounds-line_tick-end : tie.Need-slice_bounds-line_tick-end
 slice_bounds-line_tick-end c = sym (length-take-le _ _ (slice_bounds-receive-end c.before))
@@ -60,11 +60,11 @@ returns : tie.Need-returns
 returns c =
     let p = c.before.before.before.before.before.before in
     let g = p.before.before.before.before in
-    let a = g.before.before.before.args in
-    let t = c.before.before.line_tick in
-    let q = to_z-of_z g.before.before.before.ranges.count in
-    let n = sym g.is_none.ensures ∙ p.before.before.before.if-is_none.false in
-    (command a.s a.st a.contact a.request.now a.reply-1.now q n (held p) t.ensures.0, command-bytes a.s a.st a.contact a.request.now a.reply-1.now q n (held p) t.ensures.1.0)
+    let a = g.args in
+    let t = c.line_tick in
+    let q = to_z-of_z g.ranges.count in
+    let n = sym g.is_none.ensures ∙ p.if-is_none.false in
+    (command a.s a.st a.contact a.request.now a.reply.now q n (held p) t.ensures.0, command-bytes a.s a.st a.contact a.request.now a.reply.now q n (held p) t.ensures.1.0)
 
 pub request_tick_spec : {M : Type 1} → statement M
 request_tick_spec =

@@ -16,8 +16,8 @@ shape_of-space-then-next c = search rules
 
 returns-then-next : tie.Need-returns-then-next
 returns-then-next c =
-    let count : SFits w32 c.before.before.before.line_behind-next.result.said-1.count = search (sfits_of, c.struct_told-1.given) in
-    (simp (to_z-of_z count)) ∙ next_whole _ _ _ c.before.before.before.line_behind-next.ensures c.before.before.if-next.true
+    let count : SFits w32 c.line_behind-next.result.said.count = search (sfits_of, c.struct_told-1.given) in
+    (simp (to_z-of_z count)) ∙ next_whole _ _ _ c.line_behind-next.ensures c.if-next.true
 
 keep-kept-requires : tie.Need-keep-kept-requires
 keep-kept-requires c κs = search rules
@@ -34,7 +34,7 @@ shape_of-space c = search rules
 returns : tie.Need-returns
 returns c =
     let test = c.before.before.before.before.before.before.before.before.before.before in
-    next_read _ _ _ test.before.line_behind-next.ensures test.if-next.false _ c.line_at_lem.ensures
+    next_read _ _ _ test.line-behind.ensures test.if1.false _ c.line_at_lem.ensures
 
 pub next_line_spec : {M : Type 1} → statement M
 next_line_spec =

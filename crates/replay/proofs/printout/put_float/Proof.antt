@@ -23,7 +23,7 @@ returns-then-x : tie.Need-returns-then-x
 returns-then-x c = search rules
 
 float_to_bits-x : tie.Need-float_to_bits-x
-float_to_bits-x c = no_nan _ c.before.if-x.false
+float_to_bits-x c = no_nan _ c.if-x.false
 
 put_bits-requires : tie.Need-put_bits-requires
 put_bits-requires c κs = search rules

@@ -8,13 +8,13 @@ use Rattle.replay.proofs.text.has_room.Statement.{statement}
 use Rattle.replay.proofs.text.has_room.Tie as tie
 
 returns-then-length-n : tie.Need-returns-then-length-n
-returns-then-length-n c = let a = c.before.args in sym (lt-leb (a.at + a.n) a.length (omega arith))
+returns-then-length-n c = let a = c.args in sym (lt-leb (a.at + a.n) a.length (omega arith))
 
 returns-then-length-n-2 : tie.Need-returns-then-length-n-2
-returns-then-length-n-2 c = let a = c.before.before.args in sym (lt-leb (a.at + a.n) a.length (omega arith))
+returns-then-length-n-2 c = let a = c.args in sym (lt-leb (a.at + a.n) a.length (omega arith))
 
 returns : tie.Need-returns
-returns c = let a = c.before.before.args in sym (le-leb (a.at + a.n) a.length (omega arith))
+returns c = let a = c.args in sym (le-leb (a.at + a.n) a.length (omega arith))
 
 pub has_room_spec : {M : Type 1} → statement M
 has_room_spec = tie.close (tie.spec returns-then-length-n returns-then-length-n-2 returns)

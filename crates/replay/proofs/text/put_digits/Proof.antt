@@ -8,57 +8,57 @@ use Rattle.replay.proofs.Rooms.{room}
 use Rattle.replay.proofs.text.put_digits.Statement.{statement}
 use Rattle.replay.proofs.text.put_digits.Tie as tie
 
-abbrev invariant_loop : tie.invariant-loop-i
-invariant_loop out₀ at n k rest₀ i₀ out rest i = (length out ≡ length out₀) × (at + k ≤ length out₀) × (i ≤ k)
+abbrev invariant-loop-i : tie.invariant-loop-i
+invariant-loop-i out₀ at n k rest₀ i₀ out rest i = (length out ≡ length out₀) × (at + k ≤ length out₀) × (i ≤ k)
 
-abbrev decreases_loop : tie.decreases-loop-i
-decreases_loop out₀ at n k rest₀ i₀ out rest i = i
+abbrev decreases-loop-i : tie.decreases-loop-i
+decreases-loop-i out₀ at n k rest₀ i₀ out rest i = i
 
-has_room-requires : tie.Need-has_room-requires invariant_loop decreases_loop
+has_room-requires : tie.Need-has_room-requires invariant-loop-i decreases-loop-i
 has_room-requires c κs = search rules
 
-returns-then-not-has_room : tie.Need-returns-then-not-has_room invariant_loop decreases_loop
+returns-then-not-has_room : tie.Need-returns-then-not-has_room invariant-loop-i decreases-loop-i
 returns-then-not-has_room c = search rules
 
-loop-i-init : tie.Need-loop-i-init invariant_loop decreases_loop
-loop-i-init c = (refl, room _ _ _ c.before.has_room.ensures c.if-not-has_room.false, omega arith)
+loop-i-init : tie.Need-loop-i-init invariant-loop-i decreases-loop-i
+loop-i-init c = (refl, room _ _ _ c.has_room.ensures c.if-not-has_room.false, omega arith)
 
-overflow_sub-i : tie.Need-overflow_sub-i invariant_loop decreases_loop
+overflow_sub-i : tie.Need-overflow_sub-i invariant-loop-i decreases-loop-i
 overflow_sub-i c = search rules
 
-overflow_cast-out : tie.Need-overflow_cast-out invariant_loop decreases_loop
+overflow_cast-out : tie.Need-overflow_cast-out invariant-loop-i decreases-loop-i
 overflow_cast-out c = search rules
 
-overflow_add-out : tie.Need-overflow_add-out invariant_loop decreases_loop
+overflow_add-out : tie.Need-overflow_add-out invariant-loop-i decreases-loop-i
 overflow_add-out c = search rules
 
-overflow_add-out-in-loop-i : tie.Need-overflow_add-out-in-loop-i invariant_loop decreases_loop
+overflow_add-out-in-loop-i : tie.Need-overflow_add-out-in-loop-i invariant-loop-i decreases-loop-i
 overflow_add-out-in-loop-i c = search rules
 
-bounds-out-at : tie.Need-bounds-out-at invariant_loop decreases_loop
+bounds-out-at : tie.Need-bounds-out-at invariant-loop-i decreases-loop-i
 bounds-out-at c = search rules
 
-loop-i-smaller : tie.Need-loop-i-smaller invariant_loop decreases_loop
+loop-i-smaller : tie.Need-loop-i-smaller invariant-loop-i decreases-loop-i
 loop-i-smaller c = search rules
 
-loop-i-preserved : tie.Need-loop-i-preserved invariant_loop decreases_loop
+loop-i-preserved : tie.Need-loop-i-preserved invariant-loop-i decreases-loop-i
 loop-i-preserved c = search rules
 
-overflow_add-result : tie.Need-overflow_add-result invariant_loop decreases_loop
+overflow_add-result : tie.Need-overflow_add-result invariant-loop-i decreases-loop-i
 overflow_add-result c = search rules
 
-shape_of-out : tie.Need-shape_of-out invariant_loop decreases_loop
+shape_of-out : tie.Need-shape_of-out invariant-loop-i decreases-loop-i
 shape_of-out c = search rules
 
-returns : tie.Need-returns invariant_loop decreases_loop
+returns : tie.Need-returns invariant-loop-i decreases-loop-i
 returns c = search rules
 
 pub put_digits_spec : {M : Type 1} → statement M
 put_digits_spec =
     tie.close
     (tie.spec
-    invariant_loop
-    decreases_loop
+    invariant-loop-i
+    decreases-loop-i
     has_room-requires
     returns-then-not-has_room
     loop-i-init

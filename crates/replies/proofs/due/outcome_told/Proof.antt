@@ -13,7 +13,7 @@ returns-in-Done : tie.Need-returns-in-Done
 returns-in-Done c = search rules
 
 returns-in-Refused : tie.Need-returns-in-Refused
-returns-in-Refused c = simp c.before.o-1.given.1
+returns-in-Refused c = simp c.in-Refused.is
 
 pub outcome_told_spec : {M : Type 1} → statement M
 outcome_told_spec = tie.close (tie.spec enum_told-1 enum_known-o returns-in-Done returns-in-Refused)

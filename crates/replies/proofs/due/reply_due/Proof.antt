@@ -10,8 +10,8 @@ enum_known-c c = search rules
 word_reply-requires : tie.Need-word_reply-requires
 word_reply-requires c κs = search rules
 
-enum_told : tie.Need-enum_told-1
-enum_told c = search rules
+enum_told-1 : tie.Need-enum_told-1
+enum_told-1 c = search rules
 
 request_reply-requires : tie.Need-request_reply-requires
 request_reply-requires c κs = search rules
@@ -39,31 +39,31 @@ told_number-requires-in-Unknown c κs = search rules
 
 returns-in-Do : tie.Need-returns-in-Do
 unfolding reply_due
-returns-in-Do c = simp (c.word_reply.ensures, c.before.before.c-1.given.1)
+returns-in-Do c = simp (c.word_reply.ensures, c.in-Do.is)
 
 returns-in-Set : tie.Need-returns-in-Set
 unfolding reply_due
-returns-in-Set c = simp (c.request_reply.ensures, c.before.enum_told-1.given.1)
+returns-in-Set c = simp (c.request_reply.ensures, c.in-Set.is)
 
 returns-in-NoLine : tie.Need-returns-in-NoLine
 unfolding reply_due
-returns-in-NoLine c = simp c.enum_told-in-NoLine-1.given.1
+returns-in-NoLine c = simp c.in-NoLine.is
 
 returns-in-LongLine : tie.Need-returns-in-LongLine
 unfolding reply_due
-returns-in-LongLine c = simp c.enum_told-in-LongLine-1.given.1
+returns-in-LongLine c = simp c.in-LongLine.is
 
 returns-in-OtherAddress : tie.Need-returns-in-OtherAddress
 unfolding reply_due
-returns-in-OtherAddress c = simp c.enum_told-in-OtherAddress-1.given.1
+returns-in-OtherAddress c = simp c.in-OtherAddress.is
 
 returns-in-Malformed : tie.Need-returns-in-Malformed
 unfolding reply_due
-returns-in-Malformed c = simp (c.told_number_lem.ensures, c.before.enum_told-in-Malformed-1.given.1)
+returns-in-Malformed c = simp (c.told_number_lem.ensures, c.in-Malformed.is)
 
 returns-in-Unknown : tie.Need-returns-in-Unknown
 unfolding reply_due
-returns-in-Unknown c = simp (c.told_number-in-Unknown.ensures, c.before.enum_told-in-Unknown-1.given.1)
+returns-in-Unknown c = simp (c.told_number-in-Unknown.ensures, c.in-Unknown.is)
 
 pub reply_due_spec : {M : Type 1} → statement M
 reply_due_spec =
@@ -71,7 +71,7 @@ reply_due_spec =
     (tie.spec
     enum_known-c
     word_reply-requires
-    enum_told
+    enum_told-1
     request_reply-requires
     enum_told-in-NoLine
     enum_told-in-LongLine

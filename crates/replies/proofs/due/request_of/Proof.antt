@@ -13,8 +13,8 @@ word_request-requires c κs = search rules
 enum_known-c-in-Set-1 : tie.Need-enum_known-c-in-Set-1
 enum_known-c-in-Set-1 c = search rules
 
-enum_told : tie.Need-enum_told-1
-enum_told c = search rules
+enum_told-1 : tie.Need-enum_told-1
+enum_told-1 c = search rules
 
 enum_told-in-LongLine : tie.Need-enum_told-in-LongLine
 enum_told-in-LongLine c = search rules
@@ -30,31 +30,31 @@ enum_told-in-Unknown c = search rules
 
 returns-in-Do : tie.Need-returns-in-Do
 unfolding request_of
-returns-in-Do c = simp (c.word_request.ensures, c.before.before.c-1.given.1)
+returns-in-Do c = simp (c.word_request.ensures, c.in-Do.is)
 
 returns-in-Set : tie.Need-returns-in-Set
 unfolding request_of
-returns-in-Set c = simp c.before.c-in-Set-1.given.1
+returns-in-Set c = simp c.in-Set.is
 
 returns-in-NoLine : tie.Need-returns-in-NoLine
 unfolding request_of
-returns-in-NoLine c = simp c.enum_told-1.given.1
+returns-in-NoLine c = simp c.in-NoLine.is
 
 returns-in-LongLine : tie.Need-returns-in-LongLine
 unfolding request_of
-returns-in-LongLine c = simp c.enum_told-in-LongLine-1.given.1
+returns-in-LongLine c = simp c.in-LongLine.is
 
 returns-in-OtherAddress : tie.Need-returns-in-OtherAddress
 unfolding request_of
-returns-in-OtherAddress c = simp c.enum_told-in-OtherAddress-1.given.1
+returns-in-OtherAddress c = simp c.in-OtherAddress.is
 
 returns-in-Malformed : tie.Need-returns-in-Malformed
 unfolding request_of
-returns-in-Malformed c = simp c.enum_told-in-Malformed-1.given.1
+returns-in-Malformed c = simp c.in-Malformed.is
 
 returns-in-Unknown : tie.Need-returns-in-Unknown
 unfolding request_of
-returns-in-Unknown c = simp c.enum_told-in-Unknown-1.given.1
+returns-in-Unknown c = simp c.in-Unknown.is
 
 pub request_of_spec : {M : Type 1} → statement M
 request_of_spec =
@@ -63,7 +63,7 @@ request_of_spec =
     enum_known-c
     word_request-requires
     enum_known-c-in-Set-1
-    enum_told
+    enum_told-1
     enum_told-in-LongLine
     enum_told-in-OtherAddress
     enum_told-in-Malformed

@@ -3,8 +3,8 @@ use borrow.Author.Rules.{rules}
 use Rattle.replies.proofs.due.request_reply.Statement.{statement}
 use Rattle.replies.proofs.due.request_reply.Tie as tie
 
-enum_told : tie.Need-enum_told-1
-enum_told c = search rules
+enum_told-1 : tie.Need-enum_told-1
+enum_told-1 c = search rules
 
 enum_known-o : tie.Need-enum_known-o
 enum_known-o c = search rules
@@ -13,11 +13,11 @@ refusal_number-requires : tie.Need-refusal_number-requires
 refusal_number-requires c κs = search rules
 
 returns-in-Done : tie.Need-returns-in-Done
-returns-in-Done c = simp c.enum_told-1.given.1
+returns-in-Done c = simp c.in-Done.is
 
 returns-in-Refused : tie.Need-returns-in-Refused
-returns-in-Refused c = simp (c.refusal_number.ensures, c.before.before.o-1.given.1)
+returns-in-Refused c = simp (c.refusal_number.ensures, c.in-Refused.is)
 
 pub request_reply_spec : {M : Type 1} → statement M
 request_reply_spec =
-    tie.close (tie.spec enum_told enum_known-o refusal_number-requires returns-in-Done returns-in-Refused)
+    tie.close (tie.spec enum_told-1 enum_known-o refusal_number-requires returns-in-Done returns-in-Refused)

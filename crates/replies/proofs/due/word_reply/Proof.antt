@@ -4,8 +4,8 @@ use Rattle.replies.proofs.WordLaws.{settled}
 use Rattle.replies.proofs.due.word_reply.Statement.{statement}
 use Rattle.replies.proofs.due.word_reply.Tie as tie
 
-enum_told : tie.Need-enum_told-1
-enum_told c = search rules
+enum_told-1 : tie.Need-enum_told-1
+enum_told-1 c = search rules
 
 shown_of-requires : tie.Need-shown_of-requires
 shown_of-requires c κs = search rules
@@ -26,22 +26,22 @@ request_reply-requires : tie.Need-request_reply-requires
 request_reply-requires c κs = search rules
 
 returns-in-ReadWeight : tie.Need-returns-in-ReadWeight
-returns-in-ReadWeight c = simp (c.Shown-of.ensures, c.before.before.enum_told-1.given.1)
+returns-in-ReadWeight c = simp (c.Shown-of.ensures, c.in-ReadWeight.is)
 
 returns-in-ReadTotal : tie.Need-returns-in-ReadTotal
-returns-in-ReadTotal c = simp c.enum_told-in-ReadTotal-1.given.1
+returns-in-ReadTotal c = simp c.in-ReadTotal.is
 
 returns-in-ReadSetpoints : tie.Need-returns-in-ReadSetpoints
-returns-in-ReadSetpoints c = simp (c.latest-points.ensures, c.before.enum_told-in-ReadSetpoints-1.given.1)
+returns-in-ReadSetpoints c = simp (c.latest-points.ensures, c.in-ReadSetpoints.is)
 
 returns-in_default : tie.Need-returns-in_default
-returns-in_default c = let s = c.before.before.before in simp (c.request_reply.ensures, c.before.letters_for.ensures) (settled s.args.w s.args.st s.args.x s.args.o c.before.before.in_default.keys4)
+returns-in_default c = let s = c.before.before.before in simp (c.request_reply.ensures, c.letters_for.ensures) (settled s.args.w s.args.st s.args.x s.args.o c.in_default.in_default-own.keys4)
 
 pub word_reply_spec : {M : Type 1} → statement M
 word_reply_spec =
     tie.close
     (tie.spec
-    enum_told
+    enum_told-1
     shown_of-requires
     enum_told-in-ReadTotal
     enum_told-in-ReadSetpoints

@@ -18,7 +18,7 @@ shape_of-buffer : tie.Need-shape_of-buffer
 shape_of-buffer c = search rules
 
 returns : tie.Need-returns
-returns c = letters (omega arith) c.before.before.put_pair.ensures
+returns c = letters (omega arith) c.put_pair.ensures
 
 pub put_letters_spec : {M : Type 1} → statement M
 put_letters_spec =

@@ -9,45 +9,45 @@ use Rattle.replies.proofs.Stores.{space_down, done}
 use Rattle.replies.proofs.put.put_spaces.Statement.{statement}
 use Rattle.replies.proofs.put.put_spaces.Tie as tie
 
-abbrev invariant_loop : tie.invariant-loop-k
-invariant_loop buffer₀ at width k₀ buffer k = (length buffer ≡ length buffer₀) × (k ≤ width) × (sets buffer at (replicate k 32) ≡ sets buffer₀ at (replicate width 32))
+abbrev invariant-loop-k : tie.invariant-loop-k
+invariant-loop-k buffer₀ at width k₀ buffer k = (length buffer ≡ length buffer₀) × (k ≤ width) × (sets buffer at (replicate k 32) ≡ sets buffer₀ at (replicate width 32))
 
-abbrev decreases_loop : tie.decreases-loop-k
-decreases_loop buffer₀ at width k₀ buffer k = k
+abbrev decreases-loop-k : tie.decreases-loop-k
+decreases-loop-k buffer₀ at width k₀ buffer k = k
 
-loop-k-init : tie.Need-loop-k-init invariant_loop decreases_loop
+loop-k-init : tie.Need-loop-k-init invariant-loop-k decreases-loop-k
 loop-k-init c = (refl, le_refl _, refl)
 
-overflow_sub-k : tie.Need-overflow_sub-k invariant_loop decreases_loop
+overflow_sub-k : tie.Need-overflow_sub-k invariant-loop-k decreases-loop-k
 overflow_sub-k c = omega arith
 
-overflow_add-buffer : tie.Need-overflow_add-buffer invariant_loop decreases_loop
+overflow_add-buffer : tie.Need-overflow_add-buffer invariant-loop-k decreases-loop-k
 overflow_add-buffer c = omega arith
 
-bounds-buffer-at : tie.Need-bounds-buffer-at invariant_loop decreases_loop
+bounds-buffer-at : tie.Need-bounds-buffer-at invariant-loop-k decreases-loop-k
 bounds-buffer-at c = omega arith
 
-loop-k-smaller : tie.Need-loop-k-smaller invariant_loop decreases_loop
+loop-k-smaller : tie.Need-loop-k-smaller invariant-loop-k decreases-loop-k
 loop-k-smaller c = omega arith
 
-loop-k-preserved : tie.Need-loop-k-preserved invariant_loop decreases_loop
-loop-k-preserved c = (simp length-set c.before.loop-k.invariant.0, omega arith, space_down _ _ _ _ c.loop-k-test.true ∙ c.before.loop-k.invariant.2)
+loop-k-preserved : tie.Need-loop-k-preserved invariant-loop-k decreases-loop-k
+loop-k-preserved c = (simp length-set c.loop-k.invariant.0, omega arith, space_down _ _ _ _ c.loop-k-test.true ∙ c.loop-k.invariant.2)
 
-overflow_add-result : tie.Need-overflow_add-result invariant_loop decreases_loop
+overflow_add-result : tie.Need-overflow_add-result invariant-loop-k decreases-loop-k
 overflow_add-result c = omega arith
 
-shape_of-buffer : tie.Need-shape_of-buffer invariant_loop decreases_loop
-shape_of-buffer c = c.before.loop-k.invariant.0
+shape_of-buffer : tie.Need-shape_of-buffer invariant-loop-k decreases-loop-k
+shape_of-buffer c = c.loop-k.invariant.0
 
-returns : tie.Need-returns invariant_loop decreases_loop
-returns c = record { stored = done (λ k. replicate k 32) _ _ _ _ refl c.loop-k-test.false c.before.loop-k.invariant.2; behind = refl; long = length-replicate _ _ }
+returns : tie.Need-returns invariant-loop-k decreases-loop-k
+returns c = record { stored = done (λ k. replicate k 32) _ _ _ _ refl c.loop-k-test.false c.loop-k.invariant.2; behind = refl; long = length-replicate _ _ }
 
 pub put_spaces_spec : {M : Type 1} → statement M
 put_spaces_spec =
     tie.close
     (tie.spec
-    invariant_loop
-    decreases_loop
+    invariant-loop-k
+    decreases-loop-k
     loop-k-init
     overflow_sub-k
     overflow_add-buffer

@@ -8,13 +8,13 @@ use Rattle.replies.proofs.shown.is_minus.Statement.{statement}
 use Rattle.replies.proofs.shown.is_minus.Tie as tie
 
 returns-then-fit : tie.Need-returns-then-fit
-returns-then-fit c = simp (c.if-fit.true, to_z-of_z c.before.ranges.shown)
+returns-then-fit c = simp (c.if-fit.true, to_z-of_z c.ranges.shown)
 
 returns-then-x : tie.Need-returns-then-x
 returns-then-x c =
     let fit = c.before.before.before in
-    let f : SFits w32 fit.before.args.x.gross = search sfits_of in
-    simp (fit.if-fit.false, c.before.before.if-x.true, to_z-of_z f)
+    let f : SFits w32 fit.args.x.gross = search sfits_of in
+    simp (fit.if-fit.false, c.if-x.true, to_z-of_z f)
 
 returns-else-x : tie.Need-returns-else-x
 returns-else-x c = search rules

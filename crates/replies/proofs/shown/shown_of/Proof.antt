@@ -24,8 +24,8 @@ is_minus-requires c κs = search rules
 
 overflow_cast-shown : tie.Need-overflow_cast-shown
 overflow_cast-shown c =
-    let d = c.before.before.shown_weight-shown in
-    cast_need (got {w = w32} d.result d.type-inv) (wider (sfits_of d.type-inv))
+    let d = c.shown_weight-shown in
+    cast_need (got {w = w32} d.result d.type_inv) (wider (sfits_of d.type_inv))
 
 magnitude-requires : tie.Need-magnitude-requires
 magnitude-requires c κs = search rules
@@ -35,14 +35,14 @@ unfolding shown_of
 returns c =
     let minus = c.before in
     let d = minus.before.before in
-    let shown = got {w = w32} d.shown_weight-shown.result d.shown_weight-shown.type-inv in
+    let shown = got {w = w32} d.shown_weight-shown.result d.shown_weight-shown.type_inv in
     simp (
       c.magnitude.ensures,
-      to_z-of_z (subst (SFits w64) d.shown_weight-shown.ensures (wider (sfits_of d.shown_weight-shown.type-inv))),
+      to_z-of_z (subst (SFits w64) d.shown_weight-shown.ensures (wider (sfits_of d.shown_weight-shown.type_inv))),
       minus.is_minus.ensures,
       (be shown d.shown_weight-shown.ensures).read,
-      minus.before.shows_net.ensures,
-      d.before.is_fit-fit.ensures,
+      minus.shows_net.ensures,
+      d.is_fit-fit.ensures,
     )
 
 pub shown_of_spec : {M : Type 1} → statement M

@@ -7,23 +7,23 @@ use Rattle.whole.specs.Machine.{sfits_of}
 use Rattle.replies.proofs.shown.shown_weight.Statement.{statement}
 use Rattle.replies.proofs.shown.shown_weight.Tie as tie
 
-enum_told : tie.Need-enum_told-1
-enum_told c = search rules
+enum_told-1 : tie.Need-enum_told-1
+enum_told-1 c = search rules
 
 enum_told-in-Net : tie.Need-enum_told-in-Net
 enum_told-in-Net c = search rules
 
 returns-in-Gross : tie.Need-returns-in-Gross
 returns-in-Gross c =
-    let s = c.before.before.before in
+    let s = c.before.before in
     let f : SFits w32 s.args.x.gross = search sfits_of in
-    simp (to_z-of_z f, c.before.enum_told-1.given.1)
+    simp (to_z-of_z f, c.in-Gross.is)
 
 returns-in-Net : tie.Need-returns-in-Net
 returns-in-Net c =
-    let s = c.before.before.before in
+    let s = c.before.before in
     let f : SFits w32 s.args.x.net = search sfits_of in
-    simp (to_z-of_z f, c.before.enum_told-in-Net-1.given.1)
+    simp (to_z-of_z f, c.in-Net.is)
 
 pub shown_weight_spec : {M : Type 1} → statement M
-shown_weight_spec = tie.close (tie.spec enum_told enum_told-in-Net returns-in-Gross returns-in-Net)
+shown_weight_spec = tie.close (tie.spec enum_told-1 enum_told-in-Net returns-in-Gross returns-in-Net)

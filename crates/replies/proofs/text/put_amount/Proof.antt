@@ -13,13 +13,13 @@ shape_of-buffer-then-w : tie.Need-shape_of-buffer-then-w
 shape_of-buffer-then-w c = search rules
 
 returns-then-w : tie.Need-returns-then-w
-returns-then-w c = simp c.before.before.before.before.if-w.true c.before.before.put_digits.ensures
+returns-then-w c = simp c.if-w.true c.put_digits.ensures
 
 shape_of-buffer-else-w : tie.Need-shape_of-buffer-else-w
 shape_of-buffer-else-w c = search rules
 
 returns-else-w : tie.Need-returns-else-w
-returns-else-w c = simp c.before.before.before.before.if-w.false c.before.before.put_spaces.ensures
+returns-else-w c = simp c.if-w.false c.put_spaces.ensures
 
 pub put_amount_spec : {M : Type 1} → statement M
 put_amount_spec =

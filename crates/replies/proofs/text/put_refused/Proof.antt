@@ -16,7 +16,7 @@ shape_of-buffer c = search rules
 
 returns : tie.Need-returns
 unfolding refused_text
-returns c = more c.before.before.before.before.before.before.put_letters-n.ensures c.before.before.put_digits.ensures
+returns c = more c.put_letters-n.ensures c.put_digits.ensures
 
 pub put_refused_spec : {M : Type 1} → statement M
 put_refused_spec =

@@ -19,7 +19,7 @@ shape_of-buffer c = search rules
 
 returns : tie.Need-returns
 unfolding total_text
-returns c = more (more c.before.before.before.before.before.before.before.before.before.before.put_digits-n.ensures c.before.before.before.before.before.before.put_byte-n.ensures) c.before.before.put_digits.ensures
+returns c = more (more c.put_digits-n.ensures c.put_byte-n.ensures) c.put_digits.ensures
 
 pub put_total_spec : {M : Type 1} → statement M
 put_total_spec =

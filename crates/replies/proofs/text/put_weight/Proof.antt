@@ -47,9 +47,9 @@ returns c =
     let display = sign.before.before.before.before.before in
     let comma₁ = display.before.before.before.before.before in
     let status = comma₁.before.before.before.before in
-    let st = same (ap letters_text status.before.status_letters.ensures) status.put_letters-n.ensures in
-    let gs = same (ap letters_text display.before.display_letters.ensures) display.put_letters-n-2.ensures in
-    let plus = same (ap (λ (s : ℕ). comma ∷ s ∷ []) sign.before.sign_byte.ensures) sign.put_pair-n.ensures in
+    let st = same (ap letters_text status.status_letters.ensures) status.put_letters-n.ensures in
+    let gs = same (ap letters_text display.display_letters.ensures) display.put_letters-n-2.ensures in
+    let plus = same (ap (λ (s : ℕ). comma ∷ s ∷ []) sign.sign_byte.ensures) sign.put_pair-n.ensures in
     more (more (more (more (more st comma₁.put_byte-n.ensures) gs) plus) amount.put_amount-n.ensures) unit.put_letters.ensures
 
 pub put_weight_spec : {M : Type 1} → statement M

@@ -19,10 +19,10 @@ is_fit-requires c κs = search rules
 
 returns-then-not-is_fit : tie.Need-returns-then-not-is_fit
 unfolding full_of
-returns-then-not-is_fit c = simp (not-true c.before.is_fit.result c.if-not-is_fit.true, ← c.before.is_fit.ensures)
+returns-then-not-is_fit c = simp (not-true c.is_fit.result c.if-not-is_fit.true, ← c.is_fit.ensures)
 
-enum_told : tie.Need-enum_told-1
-enum_told c = search rules
+enum_told-1 : tie.Need-enum_told-1
+enum_told-1 c = search rules
 
 enum_told-in-Loss : tie.Need-enum_told-in-Loss
 enum_told-in-Loss c = search rules
@@ -38,14 +38,14 @@ below-requires c κs = search rules
 
 returns-in-Normal : tie.Need-returns-in-Normal
 unfolding full_of
-returns-in-Normal c = simp (c.enum_told-1.given.1, not-false c.before.before.before.is_fit.result c.before.before.if-not-is_fit.false, ← c.before.before.before.is_fit.ensures)
+returns-in-Normal c = simp (c.in-Normal.is, not-false c.is_fit.result c.if-not-is_fit.false, ← c.is_fit.ensures)
 
 returns-in-Loss : tie.Need-returns-in-Loss
 unfolding full_of
 returns-in-Loss c =
     simp
-    (c.below.ensures, c.before.before.before.before.enum_told-in-Loss-1.given.1, not-false c.before.before.before.before.before.before.before.is_fit.result c.before.before.before.before.before.before.if-not-is_fit.false, ← c.before.before.before.before.before.before.before.is_fit.ensures)
-    (λ i. lt_z ((nat {w = w64} {n = c.before.before.before.before.before.before.before.before.args.p.optional} (omega arith)).read i) ((widened (gross c.before.before.before.before.before.before.before.before)).read i))
+    (c.below.ensures, c.in-Loss.is, not-false c.is_fit.result c.if-not-is_fit.false, ← c.is_fit.ensures)
+    (λ i. lt_z ((nat {w = w64} {n = c.args.p.optional} (omega arith)).read i) ((widened (gross c.before.before.before.before.before.before.before)).read i))
 
 pub is_full_spec : {M : Type 1} → statement M
 is_full_spec =
@@ -53,7 +53,7 @@ is_full_spec =
     (tie.spec
     is_fit-requires
     returns-then-not-is_fit
-    enum_told
+    enum_told-1
     enum_told-in-Loss
     overflow_cast-p
     overflow_cast-x

@@ -25,8 +25,8 @@ unfolding analog_fits
 returns c =
     let h = held c.before.before.before.before.before.before in
     simp (
-      c.before.before.is_from_to.ensures,
-      c.before.is_Within.ensures,
+      c.is_from_to.ensures,
+      c.is_Within.ensures,
       c.is_within-2.ensures,
       to_z-of_z h.board,
       to_z-of_z h.low,

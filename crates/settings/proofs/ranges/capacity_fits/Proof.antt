@@ -18,7 +18,7 @@ unfolding capacity_fits
 returns c =
     let h = held c.before.before.before.before.before.before in
     simp (
-      c.before.before.before.before.is_from_to.ensures,
+      c.is_from_to.ensures,
       to_z-of_z h.capacity,
       to_z-of_z h.weight,
     )

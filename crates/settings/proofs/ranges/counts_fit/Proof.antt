@@ -40,8 +40,8 @@ returns c =
     let s = c.before.before.before.before.before.before.before.before.before in
     let h = held s in
     simp (
-      c.before.before.before.before.before.is_Within.ensures,
-      c.before.before.before.is_within-2.ensures,
+      c.is_Within.ensures,
+      c.is_within-2.ensures,
       (widened h.weight).read,
       to_z-of_z (times s 10 (omega arith)),
       (be (got {w = w64} c.difference.result c.difference.ok) c.difference.ensures).read,

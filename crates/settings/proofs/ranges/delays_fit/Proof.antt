@@ -30,10 +30,10 @@ unfolding delays_fit
 returns c =
     let h = held c.before.before.before.before.before.before.before.before.before.before in
     simp (
-      c.before.before.before.before.before.before.before.before.is_from_to.ensures,
-      c.before.before.before.before.before.before.is_from_to-2.ensures,
-      c.before.before.before.before.is_from_to-3.ensures,
-      c.before.before.is_from_to-4.ensures,
+      c.is_from_to.ensures,
+      c.is_from_to-2.ensures,
+      c.is_from_to-3.ensures,
+      c.is_from_to-4.ensures,
       c.is_from_to-5.ensures,
       to_z-of_z h.start,
       to_z-of_z h.large,

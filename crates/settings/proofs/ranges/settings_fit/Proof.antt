@@ -44,17 +44,17 @@ returns : tie.Need-returns
 unfolding settings_fit
 returns c =
     simp (
-      c.before.before.before.before.before.before.before.before.before.before.before.counts_fit_lem.ensures,
-      c.before.before.before.before.before.before.before.before.before.before.capacity_fits.ensures,
-      c.before.before.before.before.before.before.before.before.before.division_fits.ensures,
-      c.before.before.before.before.before.before.before.before.zero_range_fits.ensures,
-      c.before.before.before.before.before.before.before.tracking_fits.ensures,
-      c.before.before.before.before.before.before.stability_fits.ensures,
-      c.before.before.before.before.before.mode_fits.ensures,
-      c.before.before.before.before.delays_fit.ensures,
-      c.before.before.before.flow_fits.ensures,
-      c.before.before.address_fits.ensures,
-      c.before.analog_fits.ensures,
+      c.counts_fit_lem.ensures,
+      c.capacity_fits.ensures,
+      c.division_fits.ensures,
+      c.zero_range_fits.ensures,
+      c.tracking_fits.ensures,
+      c.stability_fits.ensures,
+      c.mode_fits.ensures,
+      c.delays_fit.ensures,
+      c.flow_fits.ensures,
+      c.address_fits.ensures,
+      c.analog_fits.ensures,
       c.discharge_fits.ensures,
     )
 

@@ -21,7 +21,7 @@ unfolding stability_fits
 returns c =
     let h = held c.before.before.before.before in
     simp (
-      c.before.before.is_from_to.ensures,
+      c.is_from_to.ensures,
       c.is_from_to-2.ensures,
       to_z-of_z h.stabletime,
       to_z-of_z h.stablewidth,

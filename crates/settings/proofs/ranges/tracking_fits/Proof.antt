@@ -24,8 +24,8 @@ unfolding tracking_fits
 returns c =
     let h = held c.before.before.before.before.before.before in
     simp (
-      c.before.before.before.before.is_from_to.ensures,
-      c.before.before.is_from_to-2.ensures,
+      c.is_from_to.ensures,
+      c.is_from_to-2.ensures,
       c.is_from_to-3.ensures,
       to_z-of_z h.tracktime,
       to_z-of_z h.trackwidth,

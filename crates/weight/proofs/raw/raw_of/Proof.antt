@@ -18,10 +18,10 @@ abbrev raw_at : tie.Start → ℤ
 raw_at s = tenths_of s.args.cal s.args.count
 
 raw : (c : tie.After-tenths-raw) → Read w64 (of_z w64 c.tenths-raw.result) (raw_at c.before.before.before)
-raw c = be (got c.tenths-raw.result c.tenths-raw.type-inv) (simp (c.tenths-raw.ensures, to_z-of_z c.before.before.before.ranges.count))
+raw c = be (got c.tenths-raw.result c.tenths-raw.type_inv) (simp (c.tenths-raw.ensures, to_z-of_z c.ranges.count))
 
-good : (c : tie.After-is_good) → c.is_good.result ≡ good_count c.before.args.count
-good c = c.is_good.ensures ∙ ap good_count (to_z-of_z c.before.ranges.count)
+good : (c : tie.After-is_good) → c.is_good.result ≡ good_count c.args.count
+good c = c.is_good.ensures ∙ ap good_count (to_z-of_z c.ranges.count)
 
 size : (c : tie.After-magnitude) → c.magnitude.result ≡ nat_abs (raw_at c.before.before.before.before)
 size c = simp (c.magnitude.ensures, (raw c.before).read)

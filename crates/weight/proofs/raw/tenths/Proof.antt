@@ -26,10 +26,10 @@ scaled_fits : (s : tie.Start) → SFits w64 ((s.args.count -ℤ s.args.cal.zero)
 scaled_fits s =
     mul_fits w64 4294967296 655350 (s.args.count -ℤ s.args.cal.zero) (10 * s.args.cal.weight) (diff_abs s.ranges.count (zero_fits s)) (omega arith) tt
 
-from_zero : (c : tie.After-difference-from_zero) → Read w64 (of_z w64 c.difference-from_zero.result) (c.before.before.args.count -ℤ c.before.before.args.cal.zero)
+from_zero : (c : tie.After-difference-from_zero) → Read w64 (of_z w64 c.difference-from_zero.result) (c.args.count -ℤ c.args.cal.zero)
 from_zero c =
     let s = c.before.before in
-    be (got c.difference-from_zero.result c.difference-from_zero.type-inv) (simp (c.difference-from_zero.ensures, to_z-of_z s.ranges.count, to_z-of_z (zero_fits s)))
+    be (got c.difference-from_zero.result c.difference-from_zero.type_inv) (simp (c.difference-from_zero.ensures, to_z-of_z s.ranges.count, to_z-of_z (zero_fits s)))
 
 difference-from_zero-requires : tie.Need-difference-from_zero-requires
 difference-from_zero-requires c κs = search rules
@@ -53,7 +53,7 @@ nearest-requires c κs = search rules
 returns : tie.Need-returns
 returns c =
     let s = c.before.before.before.before in
-    (got c.nearest.result c.nearest.type-inv).read
+    (got c.nearest.result c.nearest.type_inv).read
     ∙ c.nearest.ensures
     ∙ ap (λ (x : ℤ). nearest_of x s.args.cal.counts) (mul (from_zero c.before.before) (weight s) (scaled_fits s)).read
 

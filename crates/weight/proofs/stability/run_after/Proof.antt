@@ -18,7 +18,7 @@ change_of c = c.before.before.args.raw -ℤ c.before.before.args.last
 change : (c : tie.After-magnitude-change) → c.magnitude-change.result ≡ nat_abs (change_of c)
 change c =
     let s = c.before.before in
-    cc (to_z-of_z s.ranges.raw, to_z-of_z s.ranges.last, (got {w = w64} c.before.difference.result c.before.difference.type-inv).read)
+    cc (to_z-of_z s.ranges.raw, to_z-of_z s.ranges.last, (got {w = w64} c.difference.result c.difference.type_inv).read)
 
 one_more_lem : (a b : ℕ) → a < b → min (suc a) b ≡ a + 1
 one_more_lem a b h = omega arith
@@ -46,20 +46,20 @@ unfolding steadied_of
 returns-then-q-rule c =
     let t = c.before.before.before.before in
     let m = t.before.before.before in
-    simp (t.before.before.if-q.true, inside _ (change_of m) (change m) t.if-change-rule.true, one_more_lem _ _ c.before.if-q-rule.true)
+    simp (t.if-q.true, inside _ (change_of m) (change m) t.if-change-rule.true, one_more_lem _ _ c.if-q-rule.true)
 
 returns-then-change-rule : tie.Need-returns-then-change-rule
 unfolding steadied_of
 returns-then-change-rule c =
     let t = c.before.before.before in
     let m = t.before.before.before in
-    simp (t.before.before.if-q.true, inside _ (change_of m) (change m) t.if-change-rule.true, no_more _ _ c.if-q-rule.false)
+    simp (t.if-q.true, inside _ (change_of m) (change m) t.if-change-rule.true, no_more _ _ c.if-q-rule.false)
 
 returns-else-change-rule : tie.Need-returns-else-change-rule
 unfolding steadied_of
 returns-else-change-rule c =
     let m = c.before.before.before in
-    simp (c.before.before.if-q.true, outside _ (change_of m) (change m) c.if-change-rule.false)
+    simp (c.if-q.true, outside _ (change_of m) (change m) c.if-change-rule.false)
 
 returns-else-q : tie.Need-returns-else-q
 unfolding steadied_of

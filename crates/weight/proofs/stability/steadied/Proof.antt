@@ -8,8 +8,8 @@ use Rattle.outline.specs.Weight.{steadied_of}
 use Rattle.weight.proofs.stability.steadied.Statement.{statement}
 use Rattle.weight.proofs.stability.steadied.Tie as tie
 
-enum_told : tie.Need-enum_told-1
-enum_told c = search rules
+enum_told-1 : tie.Need-enum_told-1
+enum_told-1 c = search rules
 
 enum_known-raw : tie.Need-enum_known-raw
 enum_known-raw c = search rules
@@ -19,15 +19,15 @@ run_after-requires c κs = search rules
 
 returns-in-Bad : tie.Need-returns-in-Bad
 unfolding steadied_of
-returns-in-Bad c = simp c.enum_told-1.given.1
+returns-in-Bad c = simp c.in-Bad.is
 
 returns-in-Tenths : tie.Need-returns-in-Tenths
 unfolding steadied_of
 returns-in-Tenths c =
-    let g = c.before.before in
-    let f : SFits w32 g.raw-1.given.0.0 = search sfits_of in
-    simp (c.run_after.ensures, to_z-of_z g.before.before.ranges.last, to_z-of_z f, g.raw-1.given.1)
+    let g = c.before in
+    let f : SFits w32 g.in-Tenths.t = search sfits_of in
+    simp (c.run_after.ensures, to_z-of_z g.ranges.last, to_z-of_z f, g.in-Tenths.is)
 
 pub steadied_spec : {M : Type 1} → statement M
 steadied_spec =
-    tie.close (tie.spec enum_told enum_known-raw run_after-requires returns-in-Bad returns-in-Tenths)
+    tie.close (tie.spec enum_told-1 enum_known-raw run_after-requires returns-in-Bad returns-in-Tenths)

@@ -99,7 +99,7 @@ overflow_cast-w c = search rules
 
 returns-then-next-s : tie.Need-returns-then-next-s
 returns-then-next-s c =
-    let a = c.before.before.before.args in
+    let a = c.args in
     counts a.s a.w a.x (lt-leb a.s.tracking.time (suc a.w.counter) (omega arith))
 
 in_zero_range-requires : tie.Need-in_zero_range-requires
@@ -133,7 +133,7 @@ overflow_cast-w-then-magnitude-s c =
     cast_need (moved (start (at t.before.before))) (small_fits t)
 
 in_range : (c : tie.After-magnitude) → in_zero_range (start (at c)).args.s.range (start (at c)).args.x.raw ≡ true
-in_range c = sym (range (near c).before) ∙ not-false _ (near c).if-not-in_zero_range.false
+in_range c = sym (range (near c).before) ∙ not-false _ (near c).if2.false
 
 returns-then-magnitude-s : tie.Need-returns-then-magnitude-s
 returns-then-magnitude-s c =

@@ -20,11 +20,11 @@ calm_small t idle keyed x e = leb-true (nat_abs x.fine) t.width (and_right (fit_
 width_small : (s : tie.Start) → s.args.s.tracking.width ≤ 255
 width_small s = omega arith
 
-off : (c : tie.Then-not-is_tracking) → tracking_on c.before.before.args.s.tracking ≡ false
-off c = sym c.before.is_tracking.ensures ∙ not-true _ c.if-not-is_tracking.true
+off : (c : tie.Then-not-is_tracking) → tracking_on c.args.s.tracking ≡ false
+off c = sym c.is_tracking.ensures ∙ not-true _ c.if-not-is_tracking.true
 
-on : (c : tie.Else-not-is_tracking) → tracking_on c.before.before.args.s.tracking ≡ true
-on c = sym c.before.is_tracking.ensures ∙ not-false _ c.if-not-is_tracking.false
+on : (c : tie.Else-not-is_tracking) → tracking_on c.args.s.tracking ≡ true
+on c = sym c.is_tracking.ensures ∙ not-false _ c.if-not-is_tracking.false
 
 is_tracking-requires : tie.Need-is_tracking-requires
 is_tracking-requires c κs = search rules
@@ -40,17 +40,17 @@ counted_up-requires : tie.Need-counted_up-requires
 counted_up-requires c κs =
     let s = c.before.before.before.before in
     let a = s.args in
-    omega (arith, width_small s, calm_small a.s.tracking a.idle a.keyed a.x (sym c.before.is_calm.ensures ∙ c.if-is_calm.true))
+    omega (arith, width_small s, calm_small a.s.tracking a.idle a.keyed a.x (sym c.is_calm.ensures ∙ c.if-is_calm.true))
 
 returns-then-is_calm : tie.Need-returns-then-is_calm
 unfolding tracked_of
 returns-then-is_calm c =
     let m = c.before.before in
-    simp (c.counted_up.ensures, on m.before, sym m.is_calm.ensures ∙ c.before.if-is_calm.true)
+    simp (c.counted_up.ensures, on m.before, sym m.is_calm.ensures ∙ c.if-is_calm.true)
 
 returns : tie.Need-returns
 unfolding tracked_of
-returns c = simp (on c.before.before, sym c.before.is_calm.ensures ∙ c.if-is_calm.false)
+returns c = simp (on c.before.before, sym c.is_calm.ensures ∙ c.if-is_calm.false)
 
 pub tracked_spec : {M : Type 1} → statement M
 tracked_spec =
