@@ -28,7 +28,7 @@ returns-then-not-fit : tie.Need-returns-then-not-fit
 unfolding analog_of
 returns-then-not-fit c =
     let a = c.args in
-    numbered a.board a.scale a.displayed a.fit _ (simp (not-true a.fit c.if-not-fit.true))
+    numbered a.board a.scale a.displayed a.fit _ (simp (c.if-not-fit.true))
 
 is_fitted-requires : tie.Need-is_fitted-requires
 is_fitted-requires c κs = search rules
@@ -38,10 +38,10 @@ unfolding analog_of
 returns-then-not-is_fitted c =
     let s = c.before.before.before in
     let a = s.args in
-    let none : fitted a.board ≡ false = sym c.is_fitted.ensures ∙ not-true _ c.if-not-is_fitted.true in
+    let none : fitted a.board ≡ false = sym c.is_fitted.ensures ∙ c.if-not-is_fitted.true in
     let x = distance_of a.scale a.displayed in
     numbered a.board a.scale a.displayed a.fit _
-    (simp (not-false a.fit c.if-not-fit.false, no_value a.board x a.scale.span none))
+    (simp (c.if-not-fit.false, no_value a.board x a.scale.span none))
 
 int_to_float-w : tie.Need-int_to_float-w
 int_to_float-w c = search rules
@@ -77,8 +77,8 @@ valued : (c : tie.After-clipped-x) (b : Board) → (start c).args.board ≡ b
 valued c b e =
     let s = start c in
     let a = s.args in
-    picked a.board a.scale a.displayed a.fit b c.clipped-x.result (not-false a.fit c.if-not-fit.false) e
-    (c.clipped-x.ensures ∙ ap (λ (z : ℤ). clip_of (sub binary64 (f64 z) a.scale.low) a.scale.span) (to_z-of_z s.fits.displayed))
+    picked a.board a.scale a.displayed a.fit b c.clipped-x.result (c.if-not-fit.false) e
+    (c.clipped-x.ensures ∙ ap (λ (z : ℤ). clip_of (sub binary64 (f64 z) a.scale.low) a.scale.span) (to_z-of_z s.ranges.displayed))
 
 returns-in-None : tie.Need-returns-in-None
 returns-in-None c = answered c.before _ (valued c.before None c.in-None.is)

@@ -23,7 +23,7 @@ shape_of-state-then-why-ne0 c = search rules
 
 returns-then-why-ne0 : tie.Need-returns-then-why-ne0
 returns-then-why-ne0 c =
-    let a = c.before.before.before.before.before.args in
+    let a = c.args in
     let e = c.judged-why.ensures in
     let r = block-kept a.settings.now a.state.now a.counts.now a.contact _ (by_bytes _ _ (λ k. c.if-why-ne0.true (e ∙ k))) (λ k. c.if-why-ne0.true (e ∙ k)) in
     (e ∙ r.0, r.1)
@@ -37,9 +37,9 @@ shape_of-state-then-not-is_possible c = search rules
 returns-then-not-is_possible : tie.Need-returns-then-not-is_possible
 unfolding given_in
 returns-then-not-is_possible c =
-    let a = c.before.before.before.before.before.before.before.before.args in
+    let a = c.args in
     let w = sym c.judged.ensures ∙ c.if1.false in
-    let p = sym (c.is_possible.ensures ∙ possible_here _ _ (first_given_lem a.settings.now a.state.now w) (first_image a.settings.now a.state.now w)) ∙ not-true _ c.if-not-is_possible.true in
+    let p = sym (c.is_possible.ensures ∙ possible_here _ _ (first_given_lem a.settings.now a.state.now w) (first_image a.settings.now a.state.now w)) ∙ c.if-not-is_possible.true in
     let r = block-kept a.settings.now a.state.now a.counts.now a.contact 21 (by_ranges a.settings.now a.state.now w p) (λ k. absurd (omega arith)) in
     r
 
@@ -55,10 +55,10 @@ shape_of-state-in-Refused c = search rules
 returns-in-Refused : tie.Need-returns-in-Refused
 unfolding given_in
 returns-in-Refused c =
-    let a = c.before.before.before.before.before.before.before.before.before.before.before.args in
+    let a = c.args in
     let w = sym c.judged.ensures ∙ c.if1.false in
     let g = first_given_lem a.settings.now a.state.now w in
-    let p = sym (c.is_possible.ensures ∙ possible_here _ _ g (first_image a.settings.now a.state.now w)) ∙ not-false _ c.if-not-is_possible.false in
+    let p = sym (c.is_possible.ensures ∙ possible_here _ _ g (first_image a.settings.now a.state.now w)) ∙ c.if-not-is_possible.false in
     let o = sym (c.opened.ensures g) ∙ c.in-Refused.is in
     let r = block-kept a.settings.now a.state.now a.counts.now a.contact 10 (both_settings _ _ (unrefused a.settings.now a.state.now w p) o) (λ k. absurd (omega arith)) in
     r
@@ -79,7 +79,7 @@ returns-in-Accepted c =
     let a = s.args in
     let w = sym c.judged.ensures ∙ c.if1.false in
     let g = first_given_lem a.settings.now a.state.now w in
-    let p = sym (c.is_possible.ensures ∙ possible_here _ _ g (first_image a.settings.now a.state.now w)) ∙ not-false _ c.if-not-is_possible.false in
+    let p = sym (c.is_possible.ensures ∙ possible_here _ _ g (first_image a.settings.now a.state.now w)) ∙ c.if-not-is_possible.false in
     let u = unrefused a.settings.now a.state.now w p in
     let o = sym (c.opened.ensures g) ∙ c.in-Accepted.is in
     let h = state_held a.settings.now a.state.now (λ i. (c.slice-known.given i).fits) u in

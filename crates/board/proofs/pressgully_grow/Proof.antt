@@ -48,7 +48,7 @@ returns-then-not-is_possible c =
     let a = c.args in
     let e = c.images_refusal-why.ensures ∙ (λ i. images_refusal (c.given_refusal.ensures i) ((c.images_refusal-bytes.ensures ∙ (λ j. images_refusal (c.length_refusal.ensures j) (c.earlier_refusal.ensures j))) i)) in
     let w = sym e ∙ c.if-why-ne0.false in
-    let p = sym (c.is_possible.ensures ∙ possible_here _ _ (grow-given a.settings.now a.earlier.now a.state.now w) (grow-earlier a.settings.now a.earlier.now a.state.now w)) ∙ not-true _ c.if-not-is_possible.true in
+    let p = sym (c.is_possible.ensures ∙ possible_here _ _ (grow-given a.settings.now a.earlier.now a.state.now w) (grow-earlier a.settings.now a.earlier.now a.state.now w)) ∙ c.if-not-is_possible.true in
     grow-ranges a.settings.now a.earlier.now a.state.now w p
 
 opened-requires : tie.Need-opened-requires
@@ -64,7 +64,7 @@ returns-in-Refused c =
     let e = c.images_refusal-why.ensures ∙ (λ i. images_refusal (c.given_refusal.ensures i) ((c.images_refusal-bytes.ensures ∙ (λ j. images_refusal (c.length_refusal.ensures j) (c.earlier_refusal.ensures j))) i)) in
     let w = sym e ∙ c.if-why-ne0.false in
     let g = grow-given a.settings.now a.earlier.now a.state.now w in
-    let p = sym (c.is_possible.ensures ∙ possible_here _ _ g (grow-earlier a.settings.now a.earlier.now a.state.now w)) ∙ not-false _ c.if-not-is_possible.false in
+    let p = sym (c.is_possible.ensures ∙ possible_here _ _ g (grow-earlier a.settings.now a.earlier.now a.state.now w)) ∙ c.if-not-is_possible.false in
     grow-settings a.settings.now a.earlier.now a.state.now w p (sym (c.opened.ensures g) ∙ c.in-Refused.is)
 
 enum_told-in-Accepted : tie.Need-enum_told-in-Accepted
@@ -90,7 +90,7 @@ returns-in-Accepted c =
     let w = sym e ∙ c.if-why-ne0.false in
     let g = grow-given a.settings.now a.earlier.now a.state.now w in
     let k = grow-earlier a.settings.now a.earlier.now a.state.now w in
-    let p = sym (c.is_possible.ensures ∙ possible_here _ _ g k) ∙ not-false _ c.if-not-is_possible.false in
+    let p = sym (c.is_possible.ensures ∙ possible_here _ _ g k) ∙ c.if-not-is_possible.false in
     let r = grow-good a.settings.now a.earlier.now a.state.now w _ p (sym (c.opened.ensures g) ∙ c.in-Accepted.is) in
     let z = grow-state a.settings.now a.earlier.now a.state.now w in
     let cleared = held_as_bytes (c.clear.ensures ∙ ap (λ (n : ℕ). replicate n 0) z.2) open_holds in

@@ -36,11 +36,11 @@ returns-in-Long c = simp (sym c.kind_of.ensures.0 ∙ c.in-Long.is)
 
 returns-in-Empty : tie.Need-returns-in-Empty
 unfolding command_of
-returns-in-Empty c = simp (sym c.kind_of.ensures.0 ∙ c.in-Empty.is, c.spoken-command.ensures, c.Line-of.ensures.0)
+returns-in-Empty c = simp (sym c.kind_of.ensures.0 ∙ c.in-Empty.is, c.spoken-command.ensures, c.line_of.ensures.0)
 
 returns-in-Text : tie.Need-returns-in-Text
 unfolding command_of
-returns-in-Text c = simp (sym c.kind_of.ensures.0 ∙ c.in-Text.is, c.spoken-command.ensures, c.Line-of.ensures.0)
+returns-in-Text c = simp (sym c.kind_of.ensures.0 ∙ c.in-Text.is, c.spoken-command.ensures, c.line_of.ensures.0)
 
 pub command_of_spec : {M : Type 1} → statement M
 command_of_spec =

@@ -76,7 +76,7 @@ returns-then-refill c =
     let t = d.before.before in
     let s = entry t.before in
     let b = s.args.b in
-    let new = to_z-of_z s.fits.raw in
+    let new = to_z-of_z s.ranges.raw in
     let sum : c.booked.result ≡ booked_of b.refilled (s.args.raw -ℤ b.last) =
     c.booked.ensures ∙ (λ i. booked_of (to_z-of_z (refilled_fits s) i) (new i -ℤ to_z-of_z (last_fits s) i)) in
     (λ i. refilled_by b s.args.contact (new i) (sum i)) ∙ refill b s.args.raw s.args.contact (in_day_lem t) d.if-refill.true
@@ -90,7 +90,7 @@ returns-then-is_in_day c =
     let t = d.before.before in
     let s = entry t.before in
     let b = s.args.b in
-    let new = to_z-of_z s.fits.raw in
+    let new = to_z-of_z s.ranges.raw in
     let sum : c.booked-then-is_in_day.result ≡ booked_of b.used (b.last -ℤ s.args.raw) =
     c.booked-then-is_in_day.ensures ∙ (λ i. booked_of (to_z-of_z (used_fits s) i) (to_z-of_z (last_fits s) i -ℤ new i)) in
     (λ i. used_by b s.args.contact (new i) (sum i)) ∙ use_up b s.args.raw s.args.contact (in_day_lem t) d.if-refill.false
@@ -104,7 +104,7 @@ returns c =
     let d = t.before in
     let s = entry d in
     let b = s.args.b in
-    let new = to_z-of_z s.fits.raw in
+    let new = to_z-of_z s.ranges.raw in
     let sum : c.booked-2.result ≡ booked_of b.unbooked (b.last -ℤ s.args.raw) =
     c.booked-2.ensures ∙ (λ i. booked_of (to_z-of_z (unbooked_fits s) i) (to_z-of_z (last_fits s) i -ℤ new i)) in
     (λ i. unbooked_by b s.args.contact (new i) (sum i)) ∙ unbook b s.args.raw s.args.contact (sym d.is_in_day.ensures ∙ t.if-is_in_day.false)

@@ -16,19 +16,19 @@ optional_fits-requires c κs = search rules
 
 returns-then-not-is_seven : tie.Need-returns-then-not-is_seven
 unfolding setpoints_fit
-returns-then-not-is_seven c = simp (not-true c.is_seven.result c.if-not-is_seven.true, ← c.is_seven.ensures)
+returns-then-not-is_seven c = simp (c.if-not-is_seven.true, ← c.is_seven.ensures)
 
 returns-then-p : tie.Need-returns-then-p
 unfolding setpoints_fit
-returns-then-p c = simp (lt-leb _ _ c.if-p.true, not-false c.is_seven.result c.if-not-is_seven.false, ← c.is_seven.ensures)
+returns-then-p c = simp (lt-leb _ _ c.if-p.true, c.if-not-is_seven.false, ← c.is_seven.ensures)
 
 returns-then-not-preliminary_fits : tie.Need-returns-then-not-preliminary_fits
 unfolding setpoints_fit
-returns-then-not-preliminary_fits c = simp (not-true c.preliminary_fits.result c.if-not-preliminary_fits.true, ← c.preliminary_fits.ensures, le-leb _ _ c.if-p.false, not-false c.is_seven.result c.if-not-is_seven.false, ← c.is_seven.ensures)
+returns-then-not-preliminary_fits c = simp (c.if-not-preliminary_fits.true, ← c.preliminary_fits.ensures, le-leb _ _ c.if-p.false, c.if-not-is_seven.false, ← c.is_seven.ensures)
 
 returns : tie.Need-returns
 unfolding setpoints_fit
-returns c = simp (c.optional_fits_lem.ensures, not-false c.preliminary_fits.result c.if-not-preliminary_fits.false, ← c.preliminary_fits.ensures, le-leb _ _ c.if-p.false, not-false c.is_seven.result c.if-not-is_seven.false, ← c.is_seven.ensures)
+returns c = simp (c.optional_fits.ensures, c.if-not-preliminary_fits.false, ← c.preliminary_fits.ensures, le-leb _ _ c.if-p.false, c.if-not-is_seven.false, ← c.is_seven.ensures)
 
 pub setpoints_fit_spec : {M : Type 1} → statement M
 setpoints_fit_spec =

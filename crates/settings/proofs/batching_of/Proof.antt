@@ -44,7 +44,7 @@ returns c =
     let casts = c.before in
     let h = held casts.before.before.before.before.before.before.before.before.before.before.before.before.before.before in
     simp (
-      casts.Mode-of.ensures,
+      casts.mode_of.ensures,
       c.discharging_of.ensures,
       to_z-of_z h.mode,
       to_z-of_z h.start,

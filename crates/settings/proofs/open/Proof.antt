@@ -11,14 +11,14 @@ settings_fit-requires c κs = search rules
 
 returns-then-not-settings_fit : tie.Need-returns-then-not-settings_fit
 unfolding open_of
-returns-then-not-settings_fit c = simp (sym c.settings_fit.ensures ∙ not-true c.settings_fit.result c.if-not-settings_fit.true)
+returns-then-not-settings_fit c = simp (sym c.settings_fit.ensures ∙ c.if-not-settings_fit.true)
 
 made-requires : tie.Need-made-requires
-made-requires c κs = sym c.settings_fit.ensures ∙ not-false c.settings_fit.result c.if-not-settings_fit.false
+made-requires c κs = sym c.settings_fit.ensures ∙ c.if-not-settings_fit.false
 
 returns : tie.Need-returns
 unfolding open_of
-returns c = simp (sym c.settings_fit.ensures ∙ not-false c.settings_fit.result c.if-not-settings_fit.false, c.made.ensures)
+returns c = simp (sym c.settings_fit.ensures ∙ c.if-not-settings_fit.false, c.made.ensures)
 
 pub open_spec : {M : Type 1} → statement M
 open_spec = tie.close (tie.spec settings_fit-requires returns-then-not-settings_fit made-requires returns)

@@ -34,7 +34,7 @@ asked c = sym (c.is_bookable.ensures ∙ ap (bookable c.args.t) (to_z-of_z {w = 
 
 -- what is known where it is booked
 yes : (c : tie.Else-not-is_bookable) → bookable c.args.t c.args.v ≡ true
-yes c = asked c.before ∙ not-false c.is_bookable.result c.if-not-is_bookable.false
+yes c = asked c.before ∙ c.if-not-is_bookable.false
 
 found : (c : tie.After-magnitude-weight) → c.magnitude-weight.result ≡ nat_abs c.args.v
 found c = c.magnitude-weight.ensures ∙ ap nat_abs (to_z-of_z {w = w64} c.ranges.v)
@@ -44,7 +44,7 @@ is_bookable-requires c κs = search rules
 
 returns-then-not-is_bookable : tie.Need-returns-then-not-is_bookable
 unfolding booked_totals
-returns-then-not-is_bookable c = simp (asked c.before ∙ not-true c.is_bookable.result c.if-not-is_bookable.true)
+returns-then-not-is_bookable c = simp (asked c.before ∙ c.if-not-is_bookable.true)
 
 magnitude-weight-requires : tie.Need-magnitude-weight-requires
 magnitude-weight-requires c κs = search rules

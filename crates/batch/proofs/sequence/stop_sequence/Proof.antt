@@ -21,7 +21,7 @@ returns : tie.Need-returns
 unfolding stop_sequence
 returns c =
     let e = c.before in
-    simp (c.failed.ensures, e.stop_error_lem.ensures, e.if-is_idle.false, ← e.is_idle.ensures)
+    simp (c.failed.ensures, e.stop_error.ensures, e.if-is_idle.false, ← e.is_idle.ensures)
 
 pub stop_sequence_spec : {M : Type 1} → statement M
 stop_sequence_spec = tie.close (tie.spec is_idle-requires returns-then-is_idle stop_error-requires failed-requires returns)

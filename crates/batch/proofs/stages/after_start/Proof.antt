@@ -36,7 +36,7 @@ unfolding after_start land_of
 returns c = λ s x.
     let a = c.before.before.before.before.before.before in
     let e = simp (to_z-of_z a.ranges.v) at c.is_reached.ensures in
-    simp (c.to.ensures, c.first_flow_lem.ensures, c.if-is_reached.false, ← e, ne_eqb _ _ c.if-p-eq0.false, a.requires)
+    simp (c.to.ensures, c.first_flow.ensures, c.if-is_reached.false, ← e, ne_eqb _ _ c.if-p-eq0.false, a.requires)
 
 pub after_start_spec : {M : Type 1} → statement M
 after_start_spec =

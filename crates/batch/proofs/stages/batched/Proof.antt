@@ -43,7 +43,7 @@ returns-in-Over c = λ x.
     let w = c.before.before in
     let g = w.in-StartDelay.is in
     let a = w.before.before in
-    let e = simp (to_z-of_z a.ranges.v) at (c.after_start_lem.ensures a.args.stable x) in
+    let e = simp (to_z-of_z a.ranges.v) at (c.after_start.ensures a.args.stable x) in
     start_over _ _ _ _ refl _ g (sym w.wait.ensures ∙ c.in-Over.is) _ e
 
 pub batched_spec : {M : Type 1} → statement M

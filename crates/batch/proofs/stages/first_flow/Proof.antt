@@ -12,7 +12,7 @@ after_large-requires c κs = search rules
 
 returns-then-has_no_large : tie.Need-returns-then-has_no_large
 unfolding first_flow
-returns-then-has_no_large c = simp (c.after_large_lem.ensures, c.if-has_no_large.true, ← c.has_no_large.ensures)
+returns-then-has_no_large c = simp (c.after_large.ensures, c.if-has_no_large.true, ← c.has_no_large.ensures)
 
 returns-else-has_no_large : tie.Need-returns-else-has_no_large
 unfolding first_flow

@@ -78,7 +78,7 @@ unfolding move_of
 returns-then-is_reached c = λ x.
     let k = c.before.before.before.before.before in
     let e = simp (to_z-of_z (start k).ranges.v) at c.is_reached.ensures in
-    c.to-then-is_reached.ensures ∙ moves k x _ (simp (c.after_large_lem.ensures, c.if-is_reached.true, ← e, c.in-LargeFlow.is))
+    c.to-then-is_reached.ensures ∙ moves k x _ (simp (c.after_large.ensures, c.if-is_reached.true, ← e, c.in-LargeFlow.is))
 
 to-requires-in-LargeFlow : tie.Need-to-requires-in-LargeFlow
 to-requires-in-LargeFlow c κs = search rules
@@ -234,8 +234,8 @@ unfolding move_of land_of
 returns-then-stable c = λ x.
     let k = c.before.before.before.before in
     let a = start k in
-    let j = simp (to_z-of_z a.fits.v) at (c.judge.ensures a.args.stable x) in
-    (simp (c.finish.ensures, j, c.if-stable.true, c.in-JudgeWait.is)) ∙ flow-on _ _ _ _ refl a.pre k.if-b-q.false
+    let j = simp (to_z-of_z a.ranges.v) at (c.judge.ensures a.args.stable x) in
+    (simp (c.finish.ensures, j, c.if-stable.true, c.in-JudgeWait.is)) ∙ flow-on _ _ _ _ refl a.requires k.if-b-q.false
 
 to-requires-in-JudgeWait : tie.Need-to-requires-in-JudgeWait
 to-requires-in-JudgeWait c κs = search rules

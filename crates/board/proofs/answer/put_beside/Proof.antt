@@ -23,7 +23,7 @@ shape_of-s c = search rules
 returns : tie.Need-returns
 unfolding put_all
 returns c =
-    let e1 = c.put_u8.ensures ∙ (λ i. put_be 1 (c.analog_number_lem.ensures i) c.args.s.now 13) in
+    let e1 = c.put_u8.ensures ∙ (λ i. put_be 1 (c.analog_number.ensures i) c.args.s.now 13) in
     c.put_u8-2.ensures ∙ (λ i. put_be 1 (c.length_byte.ensures i) (e1 i) 15)
 
 pub put_beside_spec : {M : Type 1} → statement M

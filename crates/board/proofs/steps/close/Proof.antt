@@ -32,7 +32,7 @@ shape_of-answer c = search rules
 returns : tie.Need-returns
 returns c = (
   (λ st h. held_as (λ i. with_book st ((c.closed_book.ensures ∙ ap closed_of (read_part (λ (t : State). t.book) c.book_at-day.ensures h)) i)) (c.put_book.ensures.0 st h)),
-  (λ st h. c.put_day.ensures ∙ ap (λ (b : Book). closed_put (closed.Day b) c.before.before.before.before.before.before.before.before.before.before.before.before.before.args.answer.now) (read_part (λ (t : State). t.book) c.book_at-day.ensures h)),
+  (λ st h. c.put_day.ensures ∙ ap (λ (b : Book). closed_put (closed.Day b) c.args.answer.now) (read_part (λ (t : State). t.book) c.book_at-day.ensures h)),
 )
 
 pub close_spec : {M : Type 1} → statement M

@@ -45,7 +45,7 @@ returns-then-not-is_idle c st h e runs =
     let v = on.compared-v in
     let ev = (be (got {w = w64} v.result v.type_inv) v.ensures).read in
     let ea = by_sequence _ _ _ _ e (simp (to_z-of_z (gross on.before.before.before.before.before.before.before.before)) at on.advance-a.ensures) in
-    held_as (step-on _ st _ _ _ _ _ n on.is_fit-fit.ensures ev ea (sym c.is_idle.ensures ∙ not-true _ c.if-not-is_idle.true)) (c.put_sequence.ensures.0 st h)
+    held_as (step-on _ st _ _ _ _ _ n on.is_fit-fit.ensures ev ea (sym c.is_idle.ensures ∙ c.if-not-is_idle.true)) (c.put_sequence.ensures.0 st h)
 
 book_batch-requires : tie.Need-book_batch-requires
 book_batch-requires c κs = search rules
@@ -63,7 +63,7 @@ returns-then-a c st h e runs =
     let v = on.compared-v in
     let ev = (be (got {w = w64} v.result v.type_inv) v.ensures).read in
     let ea = by_sequence _ _ _ _ e (simp (to_z-of_z (gross on.before.before.before.before.before.before.before.before)) at on.advance-a.ensures) in
-    let back = sym c.is_idle.ensures ∙ not-false _ c.if-not-is_idle.false in
+    let back = sym c.is_idle.ensures ∙ c.if-not-is_idle.false in
     held_as (step-finished _ st _ _ _ _ _ n on.is_fit-fit.ensures ev ea _ _ runs back refl refl _ _ c.if-a.true refl refl)
     (c.bring_in.ensures _ (c.book_batch.ensures st h))
 
@@ -83,7 +83,7 @@ returns c st h e runs =
     let v = on.compared-v in
     let ev = (be (got {w = w64} v.result v.type_inv) v.ensures).read in
     let ea = by_sequence _ _ _ _ e (simp (to_z-of_z (gross on.before.before.before.before.before.before.before.before)) at on.advance-a.ensures) in
-    let back = sym c.is_idle.ensures ∙ not-false _ c.if-not-is_idle.false in
+    let back = sym c.is_idle.ensures ∙ c.if-not-is_idle.false in
     held_as (step_back _ st _ _ _ _ _ n on.is_fit-fit.ensures ev ea _ _ runs back refl refl c.if-a.false)
     (c.bring_in-2.ensures _ (c.put_sequence-2.ensures.0 st h))
 

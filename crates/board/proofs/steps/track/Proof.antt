@@ -29,7 +29,7 @@ shape_of-state c = search rules
 
 returns : tie.Need-returns
 returns c st h =
-    let a = c.before.before.before.before.before.before.before.before.before.before.before.args in
+    let a = c.args in
     let q = read_part (λ (t : State). t.sequence) c.sequence-at.ensures h in
     let w = read_part (λ (t : State). t.weighing) c.weighing_at-weighing.ensures h in
     let idle = c.is-idle.ensures ∙ (λ i. idle_of (q i).stage) in

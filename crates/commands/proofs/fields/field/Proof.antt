@@ -38,7 +38,7 @@ unfolding field_of
 returns-then-at-line c =
     let s = c.before.before.before.before.before in
     let long : s.args.at + 6 ≤ length s.args.line.now = omega arith in
-    c.number_of_lem.ensures ∙ simp (le-leb _ _ long, add-sub_cancel_left)
+    c.number_of.ensures ∙ simp (le-leb _ _ long, add-sub_cancel_left)
 
 returns-else-at-line : tie.Need-returns-else-at-line
 unfolding field_of

@@ -25,19 +25,19 @@ module _ (c : tie.After-is_digit invariant-loop-i decreases-loop-i) where
   L = c.before.before.before
 
   abbrev S : List ℕ
-  S = L.before.before.args.field.now
+  S = L.args.field.now
 
   abbrev B : ℕ
-  B = get_or S L.loop.i 0
+  B = get_or S L.loop-i.i 0
 
-  went : number_from 0 S ≡ cond c.is_digit.result (number_from (L.loop.v * 10 + (B - 48)) (drop (L.loop.i + 1) S)) NotDigits
-  went = sym L.loop.inv.2 ∙ step S L.loop.v L.loop.i _ c.before.before.loop-test.true c.is_digit.ensures
+  went : number_from 0 S ≡ cond c.is_digit.result (number_from (L.loop-i.v * 10 + (B - 48)) (drop (L.loop-i.i + 1) S)) NotDigits
+  went = sym L.loop-i.invariant.2 ∙ step S L.loop-i.v L.loop-i.i _ c.loop-i-test.true c.is_digit.ensures
 
   range : c.is_digit.result ≡ true → (48 ≤ B) × (B ≤ 57)
   range t = digit_range B (sym c.is_digit.ensures ∙ t)
 
-  small : L.loop.v < 100000
-  small = below L.loop.inv.1 (omega (arith, L.before.before.pre))
+  small : L.loop-i.v < 100000
+  small = below L.loop-i.invariant.1 (omega (arith, L.requires))
 
 loop-i-init : tie.Need-loop-i-init invariant-loop-i decreases-loop-i
 loop-i-init c = (zero-le, lit< tt, refl)

@@ -21,15 +21,15 @@ decreases-loop-i buf i₀ i = length buf - i
 -- what the turn's test tells of the whole search
 module _ (c : tie.After-is_cr_lf invariant-loop-i decreases-loop-i) where
   abbrev S : List ℕ
-  S = c.before.before.before.before.before.before.args.buf.now
+  S = c.args.buf.now
 
   abbrev I : ℕ
-  I = c.before.before.before.before.loop.i
+  I = c.loop-i.i
 
-  went : line_end_of S ≡ cond c.is-cr-lf.result (end_at I) (line_end_from (I + 1) (drop (I + 1) S))
+  went : line_end_of S ≡ cond c.is_cr_lf.result (end_at I) (line_end_from (I + 1) (drop (I + 1) S))
   went =
-      sym c.before.before.before.before.loop.invariant.1
-      ∙ turn S I _ _ _ c.before.before.before.loop-test.true c.before.before.byte_at.ensures c.before.byte-at2.ensures c.is-cr-lf.ensures
+      sym c.loop-i.invariant.1
+      ∙ turn S I _ _ _ c.loop-i-test.true c.byte_at.ensures c.byte_at-in-loop-i.ensures c.is_cr_lf.ensures
 
 loop-i-init : tie.Need-loop-i-init invariant-loop-i decreases-loop-i
 unfolding line_end_of

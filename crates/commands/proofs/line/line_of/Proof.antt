@@ -21,7 +21,7 @@ long c = ended c.args.buf.now _ _ c.line_end.ensures c.in-At.is
 
 slice_bounds-result-end : tie.Need-slice_bounds-result-end
 slice_bounds-result-end c =
-    sym (length-take-le _ _ (subst (λ (k : ℕ). k ≤ length c.before.before.before.before.before.before.args.buf.now) (long c) (within c.before.before.before.before.before.before.args.buf.now)))
+    sym (length-take-le _ _ (subst (λ (k : ℕ). k ≤ length c.args.buf.now) (long c) (within c.args.buf.now)))
 
 enum_told-1 : tie.Need-enum_told-1
 enum_told-1 c = search rules
@@ -37,7 +37,7 @@ slice_bounds-result-end-in-Missing c = search rules
 
 returns-in-At : tie.Need-returns-in-At
 unfolding line_of
-returns-in-At c = (ap (λ (k : ℕ). take k c.before.before.before.before.before.before.args.buf.now) (sym (long c)), refl)
+returns-in-At c = (ap (λ (k : ℕ). take k c.args.buf.now) (sym (long c)), refl)
 
 returns-in-Beyond : tie.Need-returns-in-Beyond
 unfolding line_of

@@ -115,7 +115,7 @@ start t = (at t).before.before.before.before
 
 -- there is a count at that place, and a block has few
 within : (t : tie.After-tracked-st invariant-loop-i decreases-loop-i) → (at t).loop.i < length (start t).args.counts.now
-within t = t.before.before.before.before.before.before.before.before.before.loop-test.true
+within t = t.loop-i-test.true
 
 few : (t : tie.After-tracked-st invariant-loop-i decreases-loop-i) → length (start t).args.counts.now ≤ block_limit
 few t = (at t).before.before.before.if1.false
@@ -123,8 +123,8 @@ few t = (at t).before.before.before.if1.false
 abbrev count : tie.After-tracked-st invariant-loop-i decreases-loop-i → ℤ
 count t = get_or (start t).args.counts.now (at t).loop.i (pos 0)
 
-last : (q : tie.After-struct_told-1 invariant-loop-i decreases-loop-i) → SFits w32 q.before.before.before.before.loop.st.book.last
-last q = search (sfits_of, q.struct_told.given.0)
+last : (q : tie.After-struct_told-1 invariant-loop-i decreases-loop-i) → SFits w32 q.loop-i.st.book.last
+last q = search (sfits_of, q.struct_told-1.given.0)
 
 parts : (t : tie.After-tracked-st invariant-loop-i decreases-loop-i) →
     let i = t.before in
@@ -132,20 +132,20 @@ parts : (t : tie.After-tracked-st invariant-loop-i decreases-loop-i) →
     let q = w.before.before in
     let r = q.before.before in
     let a = (start t).args in
-    Parts a.s a.contact (at t).loop.st (count t) r.raw_of.result q.steadied.result w.before.book-tick.result w.weigh.result
-    i.is-idle.result t.tracked.result
+    Parts a.s a.contact (at t).loop.st (count t) r.raw_of-raw.result q.steadied-steadied.result w.book_tick-st.result w.weigh-x.result
+    i.is_idle-idle.result t.tracked-st.result
 parts t =
     let i = t.before in
     let w = i.before.before in
     let q = w.before.before in
     let r = q.before.before in
     record {
-      raws = simp (to_z-of_z {w = w32} {z = count t} (record { sfits = r.before.count.given })) at r.raw_of.ensures;
-      steadied = simp (to_z-of_z (last q.before)) at q.steadied.ensures;
-      booked = w.before.book-tick.ensures;
-      weighed = w.weigh.ensures;
-      idles = i.is-idle.ensures;
-      tracked = t.tracked.ensures;
+      raws = simp (to_z-of_z {w = w32} {z = count t} (record { sfits = r.count-1.given })) at r.raw_of-raw.ensures;
+      steadied = simp (to_z-of_z (last q.before)) at q.steadied-steadied.ensures;
+      booked = w.book_tick-st.ensures;
+      weighed = w.weigh-x.ensures;
+      idles = i.is_idle-idle.ensures;
+      tracked = t.tracked-st.ensures;
     }
 
 -- step 6, where its ways meet; outside 00 the setpoints are still those that the block began with
@@ -153,13 +153,13 @@ stepped : (j : tie.Joined-not-idle invariant-loop-i decreases-loop-i) →
     let t = j.before in
     let w = t.before.before.before in
     let q = w.before.before in
-    j.if2.st ≡ stepped_of (start t).args.s (parts_of (at t).loop.st w.before.book-tick.result q.steadied.result t.tracked.result) w.weigh.result
+    j.if-not-idle.st ≡ stepped_of (start t).args.s (parts_of (at t).loop.st w.book_tick-st.result q.steadied-steadied.result t.tracked-st.result) w.weigh-x.result
 stepped j =
     let t = j.before in
     let p = parts t in
     let same : idle_of (at t).loop.st.sequence.stage ≡ false → (start t).args.st.setpoints ≡ (at t).loop.st.setpoints
     = λ runs. sym ((at t).loop.invariant.2 runs) in
-    let x = t.before.before.before.weigh.result in
+    let x = t.weigh-x.result in
     ⊎_elim
     (λ f.
     let v = (be (got {w = w64} f.1.result f.1.ok) f.1.ensures).read in
@@ -182,11 +182,11 @@ stepped j =
     (let gross : SFits w32 x.gross = search (sfits_of, o.3.given.1.1.1.1.1.0) in simp (to_z-of_z gross) at o.4.ensures)
     (sym o.6.ensures ∙ o.7.left))
     (λ n. n.1 ∙ step_idle _ _ _ (sym p.idles ∙ not-false _ n.0.left)))
-    j.if2.branch
+    j.if-not-idle.branch
 
 counted : (j : tie.Joined-not-idle invariant-loop-i decreases-loop-i) →
     let t = j.before in
-    j.if2.st ≡ count_in (start t).args.s (start t).args.contact (at t).loop.st (count t)
+    j.if-not-idle.st ≡ count_in (start t).args.s (start t).args.contact (at t).loop.st (count t)
 unfolding count_in
 counted j = stepped j ∙ parts_next (parts j.before)
 

@@ -23,11 +23,11 @@ are_zero-requires c κs = search rules
 
 returns-then-not-are_zero : tie.Need-returns-then-not-are_zero
 unfolding given_in
-returns-then-not-are_zero c = given_bytes _ (given_at _) c.if-s-ne-GIVEN_LENGTH.false (same c.before ∙ not-true _ c.if-not-are_zero.true)
+returns-then-not-are_zero c = given_bytes _ (given_at _) c.if-s-ne-GIVEN_LENGTH.false (same c.before ∙ c.if-not-are_zero.true)
 
 returns : tie.Need-returns
 unfolding given_in
-returns c = given_good _ (given_at _) c.if-s-ne-GIVEN_LENGTH.false (same c.before ∙ not-false _ c.if-not-are_zero.false)
+returns c = given_good _ (given_at _) c.if-s-ne-GIVEN_LENGTH.false (same c.before ∙ c.if-not-are_zero.false)
 
 pub given_refusal_spec : {M : Type 1} → statement M
 given_refusal_spec = tie.close (tie.spec returns-then-s-ne-GIVEN_LENGTH are_zero-requires returns-then-not-are_zero returns)

@@ -34,7 +34,7 @@ returns c =
     (λ i. record {
       total = c.u64_at-total.ensures i;
       count = c.u32_at-count.ensures i;
-      back = (c.back_of_lem.ensures ∙ (λ j. back_of (c.u8_at.ensures j) (c.u64_at.ensures j))) i;
+      back = (c.back_of-back.ensures ∙ (λ j. back_of (c.u8_at.ensures j) (c.u64_at.ensures j))) i;
     })
     ∙ ap (λ (b : List ℕ). (state_at b).totals) (sym (of_long _ c.if-s-lt-EARLIER_LENGTH.false))
 

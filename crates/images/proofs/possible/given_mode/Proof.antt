@@ -17,7 +17,7 @@ mode_of-requires c κs = search rules
 
 returns : tie.Need-returns
 unfolding settings_of given_at get_all
-returns c = c.Mode-of.ensures ∙ ap mode_of ((got {w = w32} _ c.i32_at.type_inv).read ∙ c.i32_at.ensures)
+returns c = c.mode_of.ensures ∙ ap mode_of ((got {w = w32} _ c.i32_at.type_inv).read ∙ c.i32_at.ensures)
 
 pub given_mode_spec : {M : Type 1} → statement M
 given_mode_spec = tie.close (tie.spec i32_at-requires mode_of-requires returns)

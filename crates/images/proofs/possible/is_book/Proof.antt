@@ -42,12 +42,12 @@ fallen c = let h = fields c.before.before.before.before.before.before.before in 
 were_sums : (c : tie.Else-not-sums_fit) →
     let b = c.args.b in
     leb (nat_abs b.refilled + nat_abs b.used) (rise_limit * b.ticks) ≡ true
-were_sums c = sym (summed c.before) ∙ not-false _ c.if-not-sums_fit.false
+were_sums c = sym (summed c.before) ∙ c.if-not-sums_fit.false
 
 was_fall : (c : tie.Else-not-fall_fits) →
     let b = c.args.b in
     leb (nat_abs (b.unbooked +ℤ b.last)) raw_limit ≡ true
-was_fall c = sym (fallen c.before) ∙ not-false _ c.if-not-fall_fits.false
+was_fall c = sym (fallen c.before) ∙ c.if-not-fall_fits.false
 
 near_sum : (x y : ℤ) → nat_abs (x +ℤ y) ≤ 4000000 → nat_abs y ≤ 2147483648 → nat_abs x ≤ 1000000000000000000
 near_sum = ints2 _ (λ a a' b b' h k. simp ints (omega (linear, simp ints at h, simp ints at k)))
@@ -56,13 +56,13 @@ sums_fit-requires : tie.Need-sums_fit-requires
 sums_fit-requires c κs = search rules
 
 returns-then-not-sums_fit : tie.Need-returns-then-not-sums_fit
-returns-then-not-sums_fit c = book_sums _ (sym (summed c.before) ∙ not-true _ c.if-not-sums_fit.true)
+returns-then-not-sums_fit c = book_sums _ (sym (summed c.before) ∙ c.if-not-sums_fit.true)
 
 fall_fits-requires : tie.Need-fall_fits-requires
 fall_fits-requires c κs = search rules
 
 returns-then-not-fall_fits : tie.Need-returns-then-not-fall_fits
-returns-then-not-fall_fits c = book_fall _ (sym (fallen c.before) ∙ not-true _ c.if-not-fall_fits.true)
+returns-then-not-fall_fits c = book_fall _ (sym (fallen c.before) ∙ c.if-not-fall_fits.true)
 
 is_raw-requires : tie.Need-is_raw-requires
 is_raw-requires c κs = search rules

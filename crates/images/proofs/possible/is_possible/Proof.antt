@@ -24,7 +24,7 @@ lengths : (c : tie.After-is_book) →
     (length s.g.now ≡ given_length) × (is_image (length s.s.now) ≡ true)
 lengths c =
     let h = c.before.before in
-    (h.if-g-ne-GIVEN_LENGTH.false, sym h.is_image.ensures ∙ not-false _ h.if-not-is_image.false)
+    (h.if-g-ne-GIVEN_LENGTH.false, sym h.is_image.ensures ∙ h.if-not-is_image.false)
 
 -- what was judged is the part at its places
 book : (c : tie.After-is_book) →
@@ -48,10 +48,10 @@ weighing c f =
 waiting : (c : tie.After-write_fits) →
     let s = c.args in
     let g = settings_of (given_at s.g.now) in
-    is_image (length s.s.now) ≡ true → c.write_fits_lem.result ≡ write_fits g.batching.mode (state_at s.s.now).waiting.write
+    is_image (length s.s.now) ≡ true → c.write_fits.result ≡ write_fits g.batching.mode (state_at s.s.now).waiting.write
 waiting c f =
     let g = settings_of (given_at c.args.g.now) in
-    c.write_fits_lem.ensures ∙ ap (λ (w : Waiting). write_fits g.batching.mode w.write) (waiting_here _ f c.waiting_at-waiting.ensures)
+    c.write_fits.ensures ∙ ap (λ (w : Waiting). write_fits g.batching.mode w.write) (waiting_here _ f c.waiting_at-waiting.ensures)
 
 returns-then-g-ne-GIVEN_LENGTH : tie.Need-returns-then-g-ne-GIVEN_LENGTH
 returns-then-g-ne-GIVEN_LENGTH c = sym (possible_no_settings _ _ c.if-g-ne-GIVEN_LENGTH.true)
@@ -60,7 +60,7 @@ is_image-requires : tie.Need-is_image-requires
 is_image-requires c κs = search rules
 
 returns-then-not-is_image : tie.Need-returns-then-not-is_image
-returns-then-not-is_image c = sym (possible_no_state _ _ c.if-g-ne-GIVEN_LENGTH.false (sym c.is_image.ensures ∙ not-true _ c.if-not-is_image.true))
+returns-then-not-is_image c = sym (possible_no_state _ _ c.if-g-ne-GIVEN_LENGTH.false (sym c.is_image.ensures ∙ c.if-not-is_image.true))
 
 book_at-book-requires : tie.Need-book_at-book-requires
 book_at-book-requires c κs = search rules
@@ -71,7 +71,7 @@ is_book-requires c κs = search rules
 returns-then-not-is_book : tie.Need-returns-then-not-is_book
 returns-then-not-is_book c =
     let k = lengths c.before in
-    not_book _ _ (sym (book c.before k.1) ∙ not-true _ c.if-not-is_book.true) ∙ sym (possible_here _ _ k.0 k.1)
+    not_book _ _ (sym (book c.before k.1) ∙ c.if-not-is_book.true) ∙ sym (possible_here _ _ k.0 k.1)
 
 totals_at-totals-requires : tie.Need-totals_at-totals-requires
 totals_at-totals-requires c κs = search rules
@@ -82,7 +82,7 @@ is_totals-requires c κs = search rules
 returns-then-not-is_totals : tie.Need-returns-then-not-is_totals
 returns-then-not-is_totals c =
     let k = lengths c.before.before.before.before in
-    not_totals _ _ (sym (totals c.before k.1) ∙ not-true _ c.if-not-is_totals.true) ∙ sym (possible_here _ _ k.0 k.1)
+    not_totals _ _ (sym (totals c.before k.1) ∙ c.if-not-is_totals.true) ∙ sym (possible_here _ _ k.0 k.1)
 
 weighing_at-weighing-requires : tie.Need-weighing_at-weighing-requires
 weighing_at-weighing-requires c κs = search rules
@@ -93,7 +93,7 @@ is_weighing-requires c κs = search rules
 returns-then-not-is_weighing : tie.Need-returns-then-not-is_weighing
 returns-then-not-is_weighing c =
     let k = lengths c.before.before.before.before.before.before.before in
-    not_weighing _ _ (sym (weighing c.before k.1) ∙ not-true _ c.if-not-is_weighing.true) ∙ sym (possible_here _ _ k.0 k.1)
+    not_weighing _ _ (sym (weighing c.before k.1) ∙ c.if-not-is_weighing.true) ∙ sym (possible_here _ _ k.0 k.1)
 
 waiting_at-waiting-requires : tie.Need-waiting_at-waiting-requires
 waiting_at-waiting-requires c κs = search rules
@@ -104,7 +104,7 @@ write_fits-requires c κs = search rules
 returns-then-not-write_fits : tie.Need-returns-then-not-write_fits
 returns-then-not-write_fits c =
     let k = lengths c.before.before.before.before.before.before.before.before.before.before in
-    not_waiting _ _ (sym (waiting c.before k.1) ∙ not-true _ c.if-not-write_fits.true) ∙ sym (possible_here _ _ k.0 k.1)
+    not_waiting _ _ (sym (waiting c.before k.1) ∙ c.if-not-write_fits.true) ∙ sym (possible_here _ _ k.0 k.1)
 
 has_points-waits-requires : tie.Need-has_points-waits-requires
 has_points-waits-requires c κs = search rules
@@ -142,10 +142,10 @@ returns c =
     c.is_rest.ensures
     ∙ (λ i. rest_possible g (q i) (p i) (x i) (at i).begun (scales i).counter ((v.has_points-waits.ensures ∙ ap (λ (w : Waiting). is_write w.write) waits) i))
     ∙ rest g st
-    (sym (book e3.before f) ∙ not-false _ e3.if-not-is_book.false)
-    (sym (totals e4.before f) ∙ not-false _ e4.if-not-is_totals.false)
-    (sym (weighing e5.before f) ∙ not-false _ e5.if-not-is_weighing.false)
-    (sym (waiting e6.before f) ∙ not-false _ e6.if-not-write_fits.false)
+    (sym (book e3.before f) ∙ e3.if-not-is_book.false)
+    (sym (totals e4.before f) ∙ e4.if-not-is_totals.false)
+    (sym (weighing e5.before f) ∙ e5.if-not-is_weighing.false)
+    (sym (waiting e6.before f) ∙ e6.if-not-write_fits.false)
     ∙ sym (possible_here _ _ k.0 f)
 
 pub is_possible_spec : {M : Type 1} → statement M

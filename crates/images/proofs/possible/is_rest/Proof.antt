@@ -47,7 +47,7 @@ returns c =
     let e = c.error_number-e.ensures in
     let j = c.judgement_number-j.ensures in
     λ i. c.is_stability.ensures i
-    && (c.setpoints_fit_lem.ensures ∙ (λ k. setpoints_fit (mode k) a.p)) i
+    && (c.setpoints_fit.ensures ∙ (λ k. setpoints_fit (mode k) a.p)) i
     && (c.is_sequence.ensures ∙ (λ k. sequence_fits b (n k) (t k) a.x.clock (e k) (j k))) i
     && (c.is_together.ensures ∙ (λ k. together_fits (mode k) a.p (n k) a.q.good a.begun a.counter a.waits)) i
 

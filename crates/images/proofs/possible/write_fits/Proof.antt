@@ -19,7 +19,7 @@ setpoints_fit-requires : tie.Need-setpoints_fit-requires
 setpoints_fit-requires c κs = search rules
 
 returns-in-Points : tie.Need-returns-in-Points
-returns-in-Points c = simp (← c.setpoints_fit_lem.ensures, ← c.given_mode.ensures, c.in-Points.is)
+returns-in-Points c = simp (← c.setpoints_fit.ensures, ← c.given_mode.ensures, c.in-Points.is)
 
 pub write_fits_spec : {M : Type 1} → statement M
 write_fits_spec =

@@ -42,7 +42,7 @@ is_read_whole-requires c κs =
 returns-then-not-is_read_whole : tie.Need-returns-then-not-is_read_whole
 returns-then-not-is_read_whole c =
     let r = c.before in
-    sym (same r ∙ (λ i. (sym r.is_read_whole.ensures ∙ not-true _ c.if-not-is_read_whole.true) i && zeros_in (gaps 0 state_length state_rows) (start r).args.s.now))
+    sym (same r ∙ (λ i. (sym r.is_read_whole.ensures ∙ c.if-not-is_read_whole.true) i && zeros_in (gaps 0 state_length state_rows) (start r).args.s.now))
 
 is_unused_zero-requires : tie.Need-is_unused_zero-requires
 is_unused_zero-requires c κs = search rules
@@ -50,7 +50,7 @@ is_unused_zero-requires c κs = search rules
 returns : tie.Need-returns
 returns c =
     let r = c.before.before in
-    sym (same r ∙ (λ i. (sym r.is_read_whole.ensures ∙ not-false _ c.if-not-is_read_whole.false) i && sym c.is_unused_zero.ensures i))
+    sym (same r ∙ (λ i. (sym r.is_read_whole.ensures ∙ c.if-not-is_read_whole.false) i && sym c.is_unused_zero.ensures i))
 
 pub is_written_spec : {M : Type 1} → statement M
 is_written_spec =

@@ -23,14 +23,14 @@ module _ (c : tie.After-is_digit invariant-loop-i decreases-loop-i) where
   L = c.before.before
 
   abbrev S : List ℕ
-  S = L.before.before.args.part.now
+  S = L.args.part.now
 
-  tested : c.is_digit.result ≡ is_digit (get_or S L.loop.i 0)
-  tested = c.is_digit.ensures ∙ ap is_digit c.before.byte_at.ensures
+  tested : c.is_digit.result ≡ is_digit (get_or S L.loop-i.i 0)
+  tested = c.is_digit.ensures ∙ ap is_digit c.byte_at.ensures
 
 module _ (c : tie.In-loop-i invariant-loop-i decreases-loop-i) where
   digit : is_digit (get_or (S c.before) (L c.before).loop.i 0) ≡ true
-  digit = sym (tested c.before) ∙ c.if1.true
+  digit = sym (tested c.before) ∙ c.loop-i-test.true
 
   within : (L c.before).loop.i < length (S c.before)
   within = digit_within (S c.before) (L c.before).loop.i digit

@@ -65,7 +65,7 @@ value_of-requires c κs = (omega arith, few c.before)
 signed-requires : tie.Need-signed-requires
 signed-requires c κs =
     let g = c.before.before in
-    omega (arith, c.value_of_lem.ensures, value_limit (D g) (N g) 9 (few g) (omega arith))
+    omega (arith, c.value_of.ensures, value_limit (D g) (N g) 9 (few g) (omega arith))
 
 overflow_add-result : tie.Need-overflow_add-result
 overflow_add-result c =
@@ -77,7 +77,7 @@ returns-in-1-to-9 c =
     let g = c.before.before.before in
     ap (λ (z : ℤ). Number z (F g + N g)) (to_z-of_z (sfits_of {w = w32} c.signed.type_inv))
     ∙ number_read (L g) (S g).args.at _ _ _ (begins g) (digits g) g.digit_run-n.ensures _
-    (c.signed.ensures ∙ simp (c.value_of_lem.ensures, g.byte_at-minus.ensures)) (omega arith) (omega arith)
+    (c.signed.ensures ∙ simp (c.value_of.ensures, g.byte_at-minus.ensures)) (omega arith) (omega arith)
 
 returns-in_default : tie.Need-returns-in_default
 returns-in_default c =

@@ -24,13 +24,13 @@ module _ (c : tie.In-loop-i invariant-loop-i decreases-loop-i) where
   S = P.args.part.now
 
   abbrev I : ℕ
-  I = c.before.loop.i
+  I = c.loop-i.i
 
   left : I < digit_run S
-  left = omega (arith, P.pre, c.loop-test.true)
+  left = omega (arith, P.requires, c.loop-i-test.true)
 
-  small : c.before.loop.v < 100000000
-  small = rw c.before.loop.invariant.1 (value_limit S I 8 (omega (arith, left)) (omega (arith, P.pre, c.loop-test.true)))
+  small : c.loop-i.v < 100000000
+  small = rw c.loop-i.invariant.1 (value_limit S I 8 (omega (arith, left)) (omega (arith, P.requires, c.loop-i-test.true)))
 
 -- what was read of it
 range : (c : tie.After-byte_at invariant-loop-i decreases-loop-i) → (48 ≤ c.byte_at.result) × (c.byte_at.result ≤ 57)

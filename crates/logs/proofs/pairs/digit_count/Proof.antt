@@ -16,8 +16,8 @@ abbrev decreases-loop-rest : tie.decreases-loop-rest
 decreases-loop-rest n k₀ rest₀ k rest = rest
 
 -- in a turn, one digit more is allowed
-more : (c : tie.In-loop-rest invariant-loop-rest decreases-loop-rest) → 2 ≤ 21 - c.before.loop.k
-more c = two_allowed (21 - c.before.loop.k) c.before.loop.rest c.before.loop.invariant.2 c.loop-test.true
+more : (c : tie.In-loop-rest invariant-loop-rest decreases-loop-rest) → 2 ≤ 21 - c.loop-rest.k
+more c = two_allowed (21 - c.loop-rest.k) c.loop-rest.rest c.loop-rest.invariant.2 c.loop-rest-test.true
 
 loop-rest-init : tie.Need-loop-rest-init invariant-loop-rest decreases-loop-rest
 unfolding decimal_text

@@ -37,13 +37,13 @@ module _ (c : tie.In-loop-i invariant-loop-i decreases-loop-i) where
   S = L.before
 
   short : length (number_lines (take S.args.lines S.args.t1)) ≤ 176
-  short = numbers_few S.args.t1 S.args.lines S.pre
+  short = numbers_few S.args.t1 S.args.lines S.requires
 
   abbrev A : Amount
-  A = get_or S.args.t1 L.loop.i (count_of 0)
+  A = get_or S.args.t1 L.loop-i.i (count_of 0)
 
-  next : length (number_lines (drop L.loop.i (take S.args.lines S.args.t1))) ≡ cond A.minus 1 0 + length (decimal_text A.size) + 1 + length (number_lines (drop (L.loop.i + 1) (take S.args.lines S.args.t1)))
-  next = omega (arith, numbers_more S.args.t1 L.loop.i S.args.lines (count_of 0) (rw (held S) c.loop-test.true) c.loop-test.true, number_length A)
+  next : length (number_lines (drop L.loop-i.i (take S.args.lines S.args.t1))) ≡ cond A.minus 1 0 + length (decimal_text A.size) + 1 + length (number_lines (drop (L.loop-i.i + 1) (take S.args.lines S.args.t1)))
+  next = omega (arith, numbers_more S.args.t1 L.loop-i.i S.args.lines (count_of 0) (rw (held S) c.loop-i-test.true) c.loop-i-test.true, number_length A)
 
 offset_bounds-amounts-i : tie.Need-offset_bounds-amounts-i invariant-loop-i decreases-loop-i
 offset_bounds-amounts-i c = omega (arith, c.loop-i-test.true, (S c).requires)

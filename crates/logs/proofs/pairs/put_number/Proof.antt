@@ -34,7 +34,7 @@ module _ (d : tie.After-digits_at-next) where
   digits = ap (λ (k : ℕ). digits_of k A.size) d.digit_count.ensures ∙ decimal_digits_lem A.size
 
   room : S.args.at + d.sign_length.result + length D ≤ length (set S.args.out.now S.args.at 45)
-  room = rw length-set (omega (arith, length_digits d.digit_count.result A.size, d.digit_count.ensures, d.sign_length.ensures, number_length A, S.pre))
+  room = rw length-set (omega (arith, length_digits d.digit_count.result A.size, d.digit_count.ensures, d.sign_length.ensures, number_length A, S.requires))
 
   put : Put (set S.args.out.now S.args.at 45) (S.args.at + d.sign_length.result) (decimal_text A.size) d.digits_at-next.last.0 d.digits_at-next.result (length D)
   put = same digits (put_fits (set S.args.out.now S.args.at 45) (S.args.at + d.sign_length.result) D room d.digits_at-next.ensures.0 d.digits_at-next.ensures.1)
@@ -47,7 +47,7 @@ module _ (d : tie.After-digits_at-next) where
   }
 
   end : d.digits_at-next.result + 1 ≤ length S.args.out.now
-  end = omega (arith, signed.behind, number_length A, S.pre)
+  end = omega (arith, signed.behind, number_length A, S.requires)
 
 bounds-out-at : tie.Need-bounds-out-at
 bounds-out-at c = omega (arith, number_length c.args.a, c.requires)

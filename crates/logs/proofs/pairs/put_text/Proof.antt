@@ -40,16 +40,16 @@ module _ (c : tie.After-shared_slice_known-in-loop-i-1 invariant-loop-i decrease
   K = S.args.keys.now
 
   abbrev I : ℕ
-  I = L.loop.i
+  I = L.loop-i.i
 
   within : I < length K
-  within = c.before.loop-test.true
+  within = c.loop-i-test.true
 
-  some : 1 ≤ length (filled (drop I K) (drop L.loop.line S.args.t3))
-  some = filled_some K I within (drop L.loop.line S.args.t3)
+  some : 1 ≤ length (filled (drop I K) (drop L.loop-i.line S.args.t3))
+  some = filled_some K I within (drop L.loop-i.line S.args.t3)
 
-  room : L.loop.at < length L.loop.out
-  room = omega (arith, some, S.pre.1, L.loop.inv.0, L.loop.inv.2)
+  room : L.loop-i.at < length L.loop-i.out
+  room = omega (arith, some, S.requires.1, L.loop-i.invariant.0, L.loop-i.invariant.2)
 
 -- where the byte is a `=`
 module _ (c : tie.Else-byte-ne-EQUALS invariant-loop-i decreases-loop-i) where
@@ -57,7 +57,7 @@ module _ (c : tie.Else-byte-ne-EQUALS invariant-loop-i decreases-loop-i) where
   B = c.before
 
   mark : eqb (get_or (K B) (I B) 0) 61 ≡ true
-  mark = eq-eqb _ _ c.if1.false
+  mark = eq-eqb _ _ c.if-byte-ne-EQUALS.false
 
   counted : marks (drop (I B) (K B)) ≡ suc (marks (drop (I B + 1) (K B)))
   counted = marks_mark (K B) (I B) (within B) mark

@@ -22,8 +22,8 @@ module _ (c : tie.After-numbers_length) where
 
   size : length (filled K S.args.amounts) ≡ length K + c.numbers_length.result
   size =
-      filled_length K S.args.amounts (omega (arith, S.pre, eight S))
-      ∙ ap (λ (n : ℕ). length K + length (number_lines (take n S.args.amounts))) S.pre.0
+      filled_length K S.args.amounts (omega (arith, S.requires, eight S))
+      ∙ ap (λ (n : ℕ). length K + length (number_lines (take n S.args.amounts))) S.requires.0
       ∙ ap (λ (n : ℕ). length K + n) (sym c.numbers_length.ensures)
 
 numbers_length-requires : tie.Need-numbers_length-requires

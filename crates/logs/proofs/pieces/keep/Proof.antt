@@ -21,7 +21,7 @@ part-kept-requires c κs = tt
 
 loop-i-init : tie.Need-loop-i-init invariant-loop-i decreases-loop-i
 loop-i-init c =
-    let a = c.before.before.before.args in
+    let a = c.args in
     let e = ap length c.part-kept.ensures in
     (zero-le, e, omega (arith, e, between_within a.space.now a.from a.all), refl, refl)
 
@@ -33,8 +33,8 @@ module _ (c : tie.In-loop-i invariant-loop-i decreases-loop-i) where
   abbrev A : tie.Start invariant-loop-i decreases-loop-i
   A = L.before.before.before.before
 
-  within : A.args.from + L.loop.i < length A.args.space.now
-  within = omega (arith, c.loop-test.true, L.loop.inv.2)
+  within : A.args.from + L.loop-i.i < length A.args.space.now
+  within = omega (arith, c.loop-i-test.true, L.loop-i.invariant.2)
 
 overflow_add-space : tie.Need-overflow_add-space invariant-loop-i decreases-loop-i
 overflow_add-space c = search rules
@@ -70,7 +70,7 @@ returns : tie.Need-returns invariant-loop-i decreases-loop-i
 unfolding kept_in
 returns c =
     let l = c.before in
-    let a = l.before.before.before.before.args in
+    let a = l.args in
     let s = a.space.now in
     let all : l.loop-i.i ≡ length (between s a.from a.all) = omega (arith, l.loop-i.invariant.0, l.loop-i.invariant.1, c.loop-i-test.false) in
     (l.loop-i.invariant.1, simp (l.loop-i.invariant.4, all, taken_whole (a.all - a.from) (drop a.from s)))

@@ -14,7 +14,7 @@ line_at-requires c κs = tt
 
 returns : tie.Need-returns
 unfolding line_behind
-returns c = simp (c.line_at_lem.ensures, c.number_behind-number.ensures, c.place_behind-from.ensures)
+returns c = simp (c.line_at.ensures, c.number_behind-number.ensures, c.place_behind-from.ensures)
 
 pub line_behind_spec : {M : Type 1} → statement M
 line_behind_spec = tie.close (tie.spec place_behind-from-requires number_behind-number-requires line_at-requires returns)

@@ -14,7 +14,7 @@ shape_of-space : tie.Need-shape_of-space
 shape_of-space c = search rules
 
 returns : tie.Need-returns
-returns c = by_count _ _ _ _ c.line_at_lem.ensures
+returns c = by_count _ _ _ _ c.line_at.ensures
 
 pub first_line_spec : {M : Type 1} → statement M
 first_line_spec = tie.close (tie.spec read_on-all-requires line_at-requires shape_of-space returns)

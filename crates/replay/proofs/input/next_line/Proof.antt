@@ -34,7 +34,7 @@ shape_of-space c = search rules
 returns : tie.Need-returns
 returns c =
     let test = c.before.before.before.before.before.before.before.before.before.before in
-    next_read _ _ _ test.line-behind.ensures test.if1.false _ c.line_at_lem.ensures
+    next_read _ _ _ test.line-behind.ensures test.if1.false _ c.line_at.ensures
 
 pub next_line_spec : {M : Type 1} → statement M
 next_line_spec =

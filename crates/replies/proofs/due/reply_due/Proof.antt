@@ -59,7 +59,7 @@ returns-in-OtherAddress c = simp c.in-OtherAddress.is
 
 returns-in-Malformed : tie.Need-returns-in-Malformed
 unfolding reply_due
-returns-in-Malformed c = simp (c.told_number_lem.ensures, c.in-Malformed.is)
+returns-in-Malformed c = simp (c.told_number.ensures, c.in-Malformed.is)
 
 returns-in-Unknown : tie.Need-returns-in-Unknown
 unfolding reply_due

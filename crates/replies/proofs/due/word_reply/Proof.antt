@@ -26,7 +26,7 @@ request_reply-requires : tie.Need-request_reply-requires
 request_reply-requires c κs = search rules
 
 returns-in-ReadWeight : tie.Need-returns-in-ReadWeight
-returns-in-ReadWeight c = simp (c.Shown-of.ensures, c.in-ReadWeight.is)
+returns-in-ReadWeight c = simp (c.shown_of.ensures, c.in-ReadWeight.is)
 
 returns-in-ReadTotal : tie.Need-returns-in-ReadTotal
 returns-in-ReadTotal c = simp c.in-ReadTotal.is

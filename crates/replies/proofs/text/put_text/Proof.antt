@@ -71,7 +71,7 @@ shape_of-buffer-in-Refused : tie.Need-shape_of-buffer-in-Refused
 shape_of-buffer-in-Refused c = search rules
 
 returns-in-Refused : tie.Need-returns-in-Refused
-returns-in-Refused c = simp c.in-Refused.is c.Put-refused.ensures
+returns-in-Refused c = simp c.in-Refused.is c.put_refused.ensures
 
 pub put_text_spec : {M : Type 1} → statement M
 put_text_spec =

@@ -19,7 +19,7 @@ is_fit-requires c κs = search rules
 
 returns-then-not-is_fit : tie.Need-returns-then-not-is_fit
 unfolding full_of
-returns-then-not-is_fit c = simp (not-true c.is_fit.result c.if-not-is_fit.true, ← c.is_fit.ensures)
+returns-then-not-is_fit c = simp (c.if-not-is_fit.true, ← c.is_fit.ensures)
 
 enum_told-1 : tie.Need-enum_told-1
 enum_told-1 c = search rules
@@ -38,13 +38,13 @@ below-requires c κs = search rules
 
 returns-in-Normal : tie.Need-returns-in-Normal
 unfolding full_of
-returns-in-Normal c = simp (c.in-Normal.is, not-false c.is_fit.result c.if-not-is_fit.false, ← c.is_fit.ensures)
+returns-in-Normal c = simp (c.in-Normal.is, c.if-not-is_fit.false, ← c.is_fit.ensures)
 
 returns-in-Loss : tie.Need-returns-in-Loss
 unfolding full_of
 returns-in-Loss c =
     simp
-    (c.below.ensures, c.in-Loss.is, not-false c.is_fit.result c.if-not-is_fit.false, ← c.is_fit.ensures)
+    (c.below.ensures, c.in-Loss.is, c.if-not-is_fit.false, ← c.is_fit.ensures)
     (λ i. lt_z ((nat {w = w64} {n = c.args.p.optional} (omega arith)).read i) ((widened (gross c.before.before.before.before.before.before.before)).read i))
 
 pub is_full_spec : {M : Type 1} → statement M

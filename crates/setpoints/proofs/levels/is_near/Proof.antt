@@ -17,7 +17,7 @@ is_fit-requires c κs = search rules
 
 returns-then-not-is_fit : tie.Need-returns-then-not-is_fit
 unfolding near_of
-returns-then-not-is_fit c = simp (not-true c.is_fit.result c.if-not-is_fit.true, ← c.is_fit.ensures)
+returns-then-not-is_fit c = simp (c.if-not-is_fit.true, ← c.is_fit.ensures)
 
 is_at_near-requires : tie.Need-is_at_near-requires
 is_at_near-requires c κs = search rules
@@ -28,7 +28,7 @@ returns c =
     simp (
       c.is_at_near.ensures,
       to_z-of_z (gross c.before.before.before.before),
-      not-false c.is_fit.result c.if-not-is_fit.false,
+      c.if-not-is_fit.false,
       ← c.is_fit.ensures,
     )
 

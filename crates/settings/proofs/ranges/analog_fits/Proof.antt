@@ -26,7 +26,7 @@ returns c =
     let h = held c.before.before.before.before.before.before in
     simp (
       c.is_from_to.ensures,
-      c.is_Within.ensures,
+      c.is_within.ensures,
       c.is_within-2.ensures,
       to_z-of_z h.board,
       to_z-of_z h.low,

@@ -40,11 +40,11 @@ returns c =
     let s = c.before.before.before.before.before.before.before.before.before in
     let h = held s in
     simp (
-      c.is_Within.ensures,
+      c.is_within.ensures,
       c.is_within-2.ensures,
       (widened h.weight).read,
       to_z-of_z (times s 10 (omega arith)),
-      (be (got {w = w64} c.difference.result c.difference.ok) c.difference.ensures).read,
+      (be (got {w = w64} c.difference.result c.difference.type_inv) c.difference.ensures).read,
       to_z-of_z h.zero,
       to_z-of_z h.span,
     )

@@ -17,7 +17,7 @@ overflow_cast-result-2 : tie.Need-overflow_cast-result-2
 overflow_cast-result-2 c = search rules
 
 returns : tie.Need-returns
-returns c = simp ((widened c.fits.x).read, (nat {w = w64} {n = c.args.a} (omega arith)).read, (nat {w = w64} {n = c.args.b} (omega arith)).read)
+returns c = simp ((widened c.ranges.x).read, (nat {w = w64} {n = c.args.a} (omega arith)).read, (nat {w = w64} {n = c.args.b} (omega arith)).read)
 
 pub is_from_to_spec : {M : Type 1} → statement M
 is_from_to_spec = tie.close (tie.spec overflow_cast-w overflow_cast-result overflow_cast-result-2 returns)

@@ -12,7 +12,7 @@ magnitude-requires : tie.Need-magnitude-requires
 magnitude-requires c κs = search rules
 
 returns : tie.Need-returns
-returns c = simp (c.magnitude.ensures, (widened c.fits.x).read)
+returns c = simp (c.magnitude.ensures, (widened c.ranges.x).read)
 
 pub is_within_spec : {M : Type 1} → statement M
 is_within_spec = tie.close (tie.spec overflow_cast-x magnitude-requires returns)

@@ -44,7 +44,7 @@ returns : tie.Need-returns
 unfolding settings_fit
 returns c =
     simp (
-      c.counts_fit_lem.ensures,
+      c.counts_fit.ensures,
       c.capacity_fits.ensures,
       c.division_fits.ensures,
       c.zero_range_fits.ensures,

@@ -34,7 +34,7 @@ is_good-requires c κs = search rules
 
 returns-then-not-is_good : tie.Need-returns-then-not-is_good
 unfolding raw_of
-returns-then-not-is_good c = simp (sym (good c.before) ∙ not-true _ c.if-not-is_good.true)
+returns-then-not-is_good c = simp (sym (good c.before) ∙ c.if-not-is_good.true)
 
 tenths-raw-requires : tie.Need-tenths-raw-requires
 tenths-raw-requires c κs = search rules
@@ -49,13 +49,13 @@ returns-then-magnitude-le-RAW_LIMIT : tie.Need-returns-then-magnitude-le-RAW_LIM
 unfolding raw_of
 returns-then-magnitude-le-RAW_LIMIT c =
     let e = c.before.before.before in
-    simp ((cast (raw c.before.before) (fits c)).read, sym (good e.before) ∙ not-false _ e.if-not-is_good.false, inside _ (raw_at e.before.before) (size c.before) c.if-magnitude-le-RAW_LIMIT.true)
+    simp ((cast (raw c.before.before) (fits c)).read, sym (good e.before) ∙ e.if-not-is_good.false, inside _ (raw_at e.before.before) (size c.before) c.if-magnitude-le-RAW_LIMIT.true)
 
 returns-else-magnitude-le-RAW_LIMIT : tie.Need-returns-else-magnitude-le-RAW_LIMIT
 unfolding raw_of
 returns-else-magnitude-le-RAW_LIMIT c =
     let e = c.before.before.before in
-    simp (sym (good e.before) ∙ not-false _ e.if-not-is_good.false, outside _ (raw_at e.before.before) (size c.before) c.if-magnitude-le-RAW_LIMIT.false)
+    simp (sym (good e.before) ∙ e.if-not-is_good.false, outside _ (raw_at e.before.before) (size c.before) c.if-magnitude-le-RAW_LIMIT.false)
 
 pub raw_of_spec : {M : Type 1} → statement M
 raw_of_spec =

@@ -109,7 +109,7 @@ returns-then-not-in_zero_range : tie.Need-returns-then-not-in_zero_range
 returns-then-not-in_zero_range c =
     let e = c.before.before.before in
     let a = (start e).args in
-    far a.s a.w a.x (full e) (sym (range c.before) ∙ not-true _ c.if-not-in_zero_range.true)
+    far a.s a.w a.x (full e) (sym (range c.before) ∙ c.if-not-in_zero_range.true)
 
 overflow_cast-moved : tie.Need-overflow_cast-moved
 overflow_cast-moved c =

@@ -13,25 +13,25 @@ is_fit-requires : tie.Need-is_fit-requires
 is_fit-requires c κs = search rules
 
 returns-then-not-is_fit : tie.Need-returns-then-not-is_fit
-returns-then-not-is_fit c = simp (sym c.is_fit.ensures ∙ not-true _ c.if-not-is_fit.true)
+returns-then-not-is_fit c = simp (sym c.is_fit.ensures ∙ c.if-not-is_fit.true)
 
 returns-then-not-idle : tie.Need-returns-then-not-idle
 returns-then-not-idle c =
     let e = c.before in
-    simp (sym e.is_fit.ensures ∙ not-false _ e.if-not-is_fit.false, not-true e.args.idle c.if-not-idle.true)
+    simp (sym e.is_fit.ensures ∙ e.if-not-is_fit.false, c.if-not-idle.true)
 
 returns-then-keyed : tie.Need-returns-then-keyed
 returns-then-keyed c =
     let e = c.before.before in
-    simp (sym e.is_fit.ensures ∙ not-false _ e.if-not-is_fit.false, not-false e.args.idle c.if-not-idle.false, c.if-keyed.true)
+    simp (sym e.is_fit.ensures ∙ e.if-not-is_fit.false, c.if-not-idle.false, c.if-keyed.true)
 
 returns-then-x : tie.Need-returns-then-x
 returns-then-x c =
     let k = c.before in
     let e = k.before.before in
     simp (
-      sym e.is_fit.ensures ∙ not-false _ e.if-not-is_fit.false,
-      not-false e.args.idle k.if-not-idle.false,
+      sym e.is_fit.ensures ∙ e.if-not-is_fit.false,
+      k.if-not-idle.false,
       k.if-keyed.false,
       c.if-x.true,
     )
@@ -51,8 +51,8 @@ returns c =
     simp (
       c.magnitude.ensures,
       to_z-of_z f,
-      sym e.is_fit.ensures ∙ not-false _ e.if-not-is_fit.false,
-      not-false e.args.idle k.if-not-idle.false,
+      sym e.is_fit.ensures ∙ e.if-not-is_fit.false,
+      k.if-not-idle.false,
       k.if-keyed.false,
       o.if-x.false,
     )

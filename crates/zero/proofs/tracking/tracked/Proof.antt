@@ -21,10 +21,10 @@ width_small : (s : tie.Start) → s.args.s.tracking.width ≤ 255
 width_small s = omega arith
 
 off : (c : tie.Then-not-is_tracking) → tracking_on c.args.s.tracking ≡ false
-off c = sym c.is_tracking.ensures ∙ not-true _ c.if-not-is_tracking.true
+off c = sym c.is_tracking.ensures ∙ c.if-not-is_tracking.true
 
 on : (c : tie.Else-not-is_tracking) → tracking_on c.args.s.tracking ≡ true
-on c = sym c.is_tracking.ensures ∙ not-false _ c.if-not-is_tracking.false
+on c = sym c.is_tracking.ensures ∙ c.if-not-is_tracking.false
 
 is_tracking-requires : tie.Need-is_tracking-requires
 is_tracking-requires c κs = search rules
