@@ -16,6 +16,7 @@ use Rattle.places.proofs.Numbers.{be_set, put_length, read_put, put_read}
 
 pub or_l : (a b : Bool) → T a → T (a || b)
 or_l true b t = tt
+or_l false b t = elim t [ ]
 
 pub or_r : (a b : Bool) → T b → T (a || b)
 or_r true b t = tt

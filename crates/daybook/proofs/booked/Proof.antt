@@ -94,7 +94,7 @@ returns : tie.Need-returns
 unfolding limit_of booked_of
 returns c =
     let d = c.before in
-    (got c.limited-2.result c.limited-2.type_inv).read
+    (got {w = w64} c.limited-2.result c.limited-2.type_inv).read
     ∙ c.limited-2.ensures
     ∙ ap (limit_to book_limit) (add (stopped d.before) (change_2 d) (total_fits d.before.before.before)).read
 

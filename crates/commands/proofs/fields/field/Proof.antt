@@ -24,11 +24,11 @@ overflow_add-end c = search rules
 slice_bounds-number_of-count : tie.Need-slice_bounds-number_of-count
 slice_bounds-number_of-count c = search rules
 
-slice-bounds-number-of-start : tie.Need-slice-bounds-number-of-start
-slice-bounds-number-of-start c = search rules
+slice_bounds-number_of-start : tie.Need-slice_bounds-number_of-start
+slice_bounds-number_of-start c = search rules
 
-slice-bounds-number-of-end : tie.Need-slice-bounds-number-of-end
-slice-bounds-number-of-end c = search rules
+slice_bounds-number_of-end : tie.Need-slice_bounds-number_of-end
+slice_bounds-number_of-end c = search rules
 
 number_of-requires : tie.Need-number_of-requires
 number_of-requires c κs = search rules
@@ -53,8 +53,8 @@ field_spec =
     overflow_sub-line
     overflow_add-end
     slice_bounds-number_of-count
-    slice-bounds-number-of-start
-    slice-bounds-number-of-end
+    slice_bounds-number_of-start
+    slice_bounds-number_of-end
     number_of-requires
     returns-then-at-line
     returns-else-at-line)

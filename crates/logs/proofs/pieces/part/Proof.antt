@@ -59,11 +59,11 @@ lesser-from-requires c κs = tt
 slice_bounds-result-count : tie.Need-slice_bounds-result-count
 slice_bounds-result-count c = search rules
 
-slice-bounds-result-start : tie.Need-slice-bounds-result-start
-slice-bounds-result-start c = search rules
+slice_bounds-result-start : tie.Need-slice_bounds-result-start
+slice_bounds-result-start c = search rules
 
-slice-bounds-result-end : tie.Need-slice-bounds-result-end
-slice-bounds-result-end c = search rules
+slice_bounds-result-end : tie.Need-slice_bounds-result-end
+slice_bounds-result-end c = search rules
 
 returns : tie.Need-returns
 returns c =
@@ -79,6 +79,6 @@ part_spec =
     lesser-end-requires
     lesser-from-requires
     slice_bounds-result-count
-    slice-bounds-result-start
-    slice-bounds-result-end
+    slice_bounds-result-start
+    slice_bounds-result-end
     returns)

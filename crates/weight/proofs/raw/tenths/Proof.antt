@@ -53,7 +53,7 @@ nearest-requires c κs = search rules
 returns : tie.Need-returns
 returns c =
     let s = c.before.before.before.before in
-    (got c.nearest.result c.nearest.type_inv).read
+    (got {w = w64} c.nearest.result c.nearest.type_inv).read
     ∙ c.nearest.ensures
     ∙ ap (λ (x : ℤ). nearest_of x s.args.cal.counts) (mul (from_zero c.before.before) (weight s) (scaled_fits s)).read
 
