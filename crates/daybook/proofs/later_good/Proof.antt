@@ -11,6 +11,7 @@ use mir.Syntax.{w32, w64}
 use mir.Val.{SFits}
 use mir.Facts.{to_z-of_z}
 use Rattle.whole.specs.Machine.{sfits_of, fits_of}
+use Rattle.whole.specs.Bits.{got}
 use Rattle.types.specs.declared.daybook.Book.{Book}
 use Rattle.outline.specs.Limits.{day_ticks}
 use Rattle.outline.specs.DayBook.{in_day, booked_of, of_refill, later_good}
@@ -79,7 +80,7 @@ returns-then-refill c =
     let new = to_z-of_z s.ranges.raw in
     let sum : c.booked.result ≡ booked_of b.refilled (s.args.raw -ℤ b.last) =
     c.booked.ensures ∙ (λ i. booked_of (to_z-of_z (refilled_fits s) i) (new i -ℤ to_z-of_z (last_fits s) i)) in
-    (λ i. refilled_by b s.args.contact (new i) (sum i)) ∙ refill b s.args.raw s.args.contact (in_day_lem t) d.if-refill.true
+    (λ i. refilled_by b s.args.contact (new i) (((got {w = w64} c.booked.result c.booked.type_inv).read ∙ sum) i)) ∙ refill b s.args.raw s.args.contact (in_day_lem t) d.if-refill.true
 
 booked-requires-then-is_in_day : tie.Need-booked-requires-then-is_in_day
 booked-requires-then-is_in_day c κs = search rules
@@ -93,7 +94,7 @@ returns-then-is_in_day c =
     let new = to_z-of_z s.ranges.raw in
     let sum : c.booked-then-is_in_day.result ≡ booked_of b.used (b.last -ℤ s.args.raw) =
     c.booked-then-is_in_day.ensures ∙ (λ i. booked_of (to_z-of_z (used_fits s) i) (to_z-of_z (last_fits s) i -ℤ new i)) in
-    (λ i. used_by b s.args.contact (new i) (sum i)) ∙ use_up b s.args.raw s.args.contact (in_day_lem t) d.if-refill.false
+    (λ i. used_by b s.args.contact (new i) (((got {w = w64} c.booked-then-is_in_day.result c.booked-then-is_in_day.type_inv).read ∙ sum) i)) ∙ use_up b s.args.raw s.args.contact (in_day_lem t) d.if-refill.false
 
 booked-requires-2 : tie.Need-booked-requires-2
 booked-requires-2 c κs = search rules
@@ -107,7 +108,7 @@ returns c =
     let new = to_z-of_z s.ranges.raw in
     let sum : c.booked-2.result ≡ booked_of b.unbooked (b.last -ℤ s.args.raw) =
     c.booked-2.ensures ∙ (λ i. booked_of (to_z-of_z (unbooked_fits s) i) (to_z-of_z (last_fits s) i -ℤ new i)) in
-    (λ i. unbooked_by b s.args.contact (new i) (sum i)) ∙ unbook b s.args.raw s.args.contact (sym d.is_in_day.ensures ∙ t.if-is_in_day.false)
+    (λ i. unbooked_by b s.args.contact (new i) (((got {w = w64} c.booked-2.result c.booked-2.type_inv).read ∙ sum) i)) ∙ unbook b s.args.raw s.args.contact (sym d.is_in_day.ensures ∙ t.if-is_in_day.false)
 
 pub later_good_spec : {M : Type 1} → statement M
 later_good_spec =

@@ -33,7 +33,7 @@ returns-then-b-q : tie.Need-returns-then-b-q
 returns-then-b-q c = λ s v. c.fail.ensures ∙ empty-slow _ _ _ _ refl c.requires c.if-b-q.true
 
 overflow_add-clock : tie.Need-overflow_add-clock
-overflow_add-clock c = record { fits = omega (arith, c.if-b-q.false, c.well-formed.0.1.1.1.1.1.1.1.1.1.0) }
+overflow_add-clock c = record { fits = omega (arith, c.if-b-q.false, c.well_formed.0.1.1.1.1.1.1.1.1.1.0) }
 
 enum_known-stage : tie.Need-enum_known-stage
 enum_known-stage c = search rules
@@ -77,7 +77,7 @@ unfolding move_of
 returns-in-Still c = λ s v.
     let w = c.before.before in
     let g = w.before in
-    c.to-in-Still.ensures ∙ moves g.before.before s v _ (simp (sym w.wait.ensures ∙ c.in-Still.is, g.in-DischargeEnd.is))
+    c.to-in-Still.ensures ∙ moves g.before s v _ (simp (sym w.wait.ensures ∙ c.in-Still.is, g.in-DischargeEnd.is))
 
 enum_told-1 : tie.Need-enum_told-1
 enum_told-1 c = search rules
@@ -90,7 +90,7 @@ unfolding move_of
 returns-in-Over c = λ s v.
     let w = c.before.before in
     let g = w.before in
-    let k = g.before.before in
+    let k = g.before in
     c.to-in-Over.ensures ∙ empty-over _ _ _ _ refl (start k).requires k.if-b-q.false (simp (sym w.wait.ensures ∙ c.in-Over.is, g.in-DischargeEnd.is))
 
 pub emptied_spec : {M : Type 1} → statement M

@@ -41,11 +41,11 @@ returns-in-At c = (ap (λ (k : ℕ). take k c.args.buf.now) (sym (long c)), refl
 
 returns-in-Beyond : tie.Need-returns-in-Beyond
 unfolding line_of
-returns-in-Beyond c = (simp (sym c.line-end.ensures ∙ c.enum_told.given.1), refl)
+returns-in-Beyond c = (simp (sym c.line_end.ensures ∙ c.in-Beyond.is), refl)
 
 returns-in-Missing : tie.Need-returns-in-Missing
 unfolding line_of
-returns-in-Missing c = (simp (sym c.line-end.ensures ∙ c.enum-told2.given.1), refl)
+returns-in-Missing c = (simp (sym c.line_end.ensures ∙ c.in-Missing.is), refl)
 
 pub line_of_spec : {M : Type 1} → statement M
 line_of_spec =

@@ -107,7 +107,7 @@ returns c =
     let c1 = c2.before in
     let start = c1.before.before in
     (λ i.
-    (c2.is-flag.ensures ∙ (λ k. leb (c1.u8-at.ensures k) 1)) i
+    (c2.is_flag.ensures ∙ (λ k. leb (c1.u8-at.ensures k) 1)) i
     && (c4.is-flag2.ensures ∙ (λ k. leb (c3.u8-at2.ensures k) 1)) i
     && (c6.is-flag3.ensures ∙ (λ k. leb (c5.u8-at3.ensures k) 1)) i
     && (c8.is-flag4.ensures ∙ (λ k. leb (c7.u8-at4.ensures k) 1)) i

@@ -67,9 +67,9 @@ start c = c.before.before.before
 full : (c : tie.Else-next-s) → leb (start c).args.s.tracking.time (suc (start c).args.w.counter) ≡ true
 full c = le-leb (start c).args.s.tracking.time (suc (start c).args.w.counter) (omega arith)
 
-range : (c : tie.After-in_zero_range) → c.in_zero_range.result ≡ in_zero_range (start c.before.before).args.s.range (start c.before.before).args.x.raw
+range : (c : tie.After-in_zero_range) → c.in_zero_range.result ≡ in_zero_range c.args.s.range c.args.x.raw
 range c =
-    let s = start c.before.before in
+    let s = start c.before.before.before in
     c.in_zero_range.ensures ∙ ap (in_zero_range s.args.s.range) (to_z-of_z (raw_fits s))
 
 -- the place where the raw is in range
@@ -77,7 +77,7 @@ abbrev near : tie.After-magnitude → tie.Else-not-in_zero_range
 near c = c.before.before.before.before.before
 
 abbrev at : tie.After-magnitude → tie.Else-next-s
-at c = (near c).before.before.before
+at c = (near c).before.before.before.before
 
 size : (c : tie.After-magnitude) → c.magnitude.result ≡ nat_abs (sum_of (start (at c)))
 size c = c.magnitude.ensures ∙ ap nat_abs (moved (start (at c))).read
@@ -108,17 +108,17 @@ in_zero_range-requires c κs = search rules
 returns-then-not-in_zero_range : tie.Need-returns-then-not-in_zero_range
 returns-then-not-in_zero_range c =
     let e = c.before.before.before in
-    let a = (start e).args in
-    far a.s a.w a.x (full e) (sym (range c.before) ∙ c.if-not-in_zero_range.true)
+    let a = (start e.before).args in
+    far a.s a.w a.x (full e.before) (sym (range c.before) ∙ c.if-not-in_zero_range.true)
 
 overflow_cast-moved : tie.Need-overflow_cast-moved
 overflow_cast-moved c =
-    let s = start c.before.before.before.before.before in
+    let s = start c.before.before.before.before.before.before in
     cast_need (arg (tracked_fits s)) (wider (tracked_fits s))
 
 overflow_add-moved : tie.Need-overflow_add-moved
 overflow_add-moved c =
-    let s = start c.before.before.before.before.before.before.before in
+    let s = start c.before.before.before.before.before.before.before.before in
     add_need (old s) (arg (fine_fits s)) (sum_fits s)
 
 magnitude-requires : tie.Need-magnitude-requires
@@ -133,7 +133,7 @@ overflow_cast-w-then-magnitude-s c =
     cast_need (moved (start (at t.before.before))) (small_fits t)
 
 in_range : (c : tie.After-magnitude) → in_zero_range (start (at c)).args.s.range (start (at c)).args.x.raw ≡ true
-in_range c = sym (range (near c).before) ∙ not-false _ (near c).if2.false
+in_range c = sym (range (near c).before) ∙ (near c).if-not-in_zero_range.false
 
 returns-then-magnitude-s : tie.Need-returns-then-magnitude-s
 returns-then-magnitude-s c =

@@ -40,17 +40,17 @@ counted_up-requires : tie.Need-counted_up-requires
 counted_up-requires c κs =
     let s = c.before.before.before.before in
     let a = s.args in
-    omega (arith, width_small s, calm_small a.s.tracking a.idle a.keyed a.x (sym c.is_calm.ensures ∙ c.if-is_calm.true))
+    omega (arith, width_small s.before.before, calm_small a.s.tracking a.idle a.keyed a.x (sym c.is_calm.ensures ∙ c.if-is_calm.true))
 
 returns-then-is_calm : tie.Need-returns-then-is_calm
 unfolding tracked_of
 returns-then-is_calm c =
     let m = c.before.before in
-    simp (c.counted_up.ensures, on m.before, sym m.is_calm.ensures ∙ c.if-is_calm.true)
+    simp (c.counted_up.ensures, on m.before.before, sym m.is_calm.ensures ∙ c.if-is_calm.true)
 
 returns : tie.Need-returns
 unfolding tracked_of
-returns c = simp (on c.before.before, sym c.is_calm.ensures ∙ c.if-is_calm.false)
+returns c = simp (on c.before.before.before, sym c.is_calm.ensures ∙ c.if-is_calm.false)
 
 pub tracked_spec : {M : Type 1} → statement M
 tracked_spec =
