@@ -48,7 +48,7 @@ put_flag-requires-2 c κs = search rules
 abbrev start : tie.After-slice_known-9-1 → tie.Start
 start c = c.before.before.before.before.before.before.before.before.before.before.before.before.before.before.before.before.before.before.before.before.before.before.before.before.before.before.before.before.before.before.before.before.before.before.before.before.before.before.before
 
-written : (c : tie.After-slice_known-9-1) → c.put_flag-2.new.0 ≡ put_all book_rows (book_numbers (start c).args.b) (start c).args.s.now
+written : (c : tie.After-slice_known-9-1) → c.put_flag-2.new.s ≡ put_all book_rows (book_numbers (start c).args.b) (start c).args.s.now
 unfolding put_all
 written c =
     let a = start c in

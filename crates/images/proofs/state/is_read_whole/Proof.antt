@@ -107,19 +107,19 @@ returns c =
     let c1 = c2.before in
     let start = c1.before.before in
     (λ i.
-    (c2.is_flag.ensures ∙ (λ k. leb (c1.u8-at.ensures k) 1)) i
-    && (c4.is-flag2.ensures ∙ (λ k. leb (c3.u8-at2.ensures k) 1)) i
-    && (c6.is-flag3.ensures ∙ (λ k. leb (c5.u8-at3.ensures k) 1)) i
-    && (c8.is-flag4.ensures ∙ (λ k. leb (c7.u8-at4.ensures k) 1)) i
-    && eqb (c9.stage-number.ensures i) (c10.u8-at5.ensures i)
-    && eqb (c11.stage-timer.ensures i) (c12.u16-at.ensures i)
-    && eqb (c13.error-number.ensures i) (c14.u8-at6.ensures i)
-    && eqb (c15.judgement-number.ensures i) (c16.u8-at7.ensures i)
-    && eqb (c17.back-tag.ensures i) (c18.u8-at8.ensures i)
-    && eqb (c19.back-weight.ensures i) (c20.u64-at.ensures i)
-    && (c22.is-flag5.ensures ∙ (λ k. leb (c21.u8-at9.ensures k) 1)) i
-    && (eqb (c23.u8-at10.ensures i) 1 || c24.are-zero.ensures i))
-    ∙ whole start.args.s.now (λ k. (c1.before.shared-slice-known.given k).fits) start.args.q start.args.t start.requires.0 start.requires.1
+    (c2.is_flag.ensures ∙ (λ k. leb (c1.u8_at.ensures k) 1)) i
+    && (c4.is_flag-2.ensures ∙ (λ k. leb (c3.u8_at-2.ensures k) 1)) i
+    && (c6.is_flag-3.ensures ∙ (λ k. leb (c5.u8_at-3.ensures k) 1)) i
+    && (c8.is_flag-4.ensures ∙ (λ k. leb (c7.u8_at-4.ensures k) 1)) i
+    && eqb (c9.stage_number.ensures i) (c10.u8_at-5.ensures i)
+    && eqb (c11.stage_timer.ensures i) (c12.u16_at.ensures i)
+    && eqb (c13.error_number.ensures i) (c14.u8_at-6.ensures i)
+    && eqb (c15.judgement_number.ensures i) (c16.u8_at-7.ensures i)
+    && eqb (c17.back_tag.ensures i) (c18.u8_at-8.ensures i)
+    && eqb (c19.back_weight.ensures i) (c20.u64_at.ensures i)
+    && (c22.is_flag-5.ensures ∙ (λ k. leb (c21.u8_at-9.ensures k) 1)) i
+    && (eqb (c23.u8_at-10.ensures i) 1 || c24.are_zero.ensures i))
+    ∙ whole start.args.s.now (λ k. (c1.before.shared_slice_known-1.given k).fits) start.args.q start.args.t start.requires.0 start.requires.1
 
 pub is_read_whole_spec : {M : Type 1} → statement M
 is_read_whole_spec =
