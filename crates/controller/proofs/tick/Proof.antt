@@ -158,13 +158,13 @@ outputs-requires : tie.Need-outputs-requires
 outputs-requires c κs = search rules
 
 count : (s : tie.Start) → SFits w32 s.args.i.count
-count s = search (sfits_of, s.well-formed.1.1.0)
+count s = search (sfits_of, s.well_formed.1.1.0)
 
 last : (s : tie.Start) → SFits w32 s.args.st.book.last
-last s = search (sfits_of, s.well-formed.1.0)
+last s = search (sfits_of, s.well_formed.1.0)
 
 abbrev start : tie.After-tracked-st → tie.Start
-start t = t.before.before.before.before.before.before.before.before.before.before.before.before.before.before
+start t = t.before.before.before.before.before.before.before.before.before.before.before.before.before.before.before.before.before.before.before.before.before.before.before.before.before.before
 
 -- step 4, where its ways meet
 left : (m : tie.Joined-done) →
@@ -237,8 +237,8 @@ parts t =
     let r = q.before.before in
     let s = r.before.before in
     record {
-      raws = simp (to_z-of_z (count s)) at r.raw_of-raw.ensures;
-      steadied = simp (to_z-of_z (last s)) at q.steadied-st.ensures;
+      raws = simp (to_z-of_z (count s.before.before.before.before.before.before.before.before.before.before.before.before)) at r.raw_of-raw.ensures;
+      steadied = simp (to_z-of_z (last s.before.before.before.before.before.before.before.before.before.before.before.before)) at q.steadied-st.ensures;
       booked = k.book_tick-st.ensures;
       weighed = w.weigh-x.ensures;
       ruled = u.ruling-outcome.ensures;

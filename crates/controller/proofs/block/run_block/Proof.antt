@@ -108,20 +108,20 @@ none_waiting-st-requires c κs = search rules
 
 -- the loop's state and place, before this count
 abbrev at : tie.After-tracked-st invariant-loop-i decreases-loop-i → tie.At-loop-i invariant-loop-i decreases-loop-i
-at t = t.before.before.before.before.before.before.before.before.before.before
+at t = t.before.before.before.before.before.before.before.before.before.before.before.before.before.before.before.before
 
 abbrev start : tie.After-tracked-st invariant-loop-i decreases-loop-i → tie.Start invariant-loop-i decreases-loop-i
 start t = (at t).before.before.before.before
 
 -- there is a count at that place, and a block has few
-within : (t : tie.After-tracked-st invariant-loop-i decreases-loop-i) → (at t).loop.i < length (start t).args.counts.now
+within : (t : tie.After-tracked-st invariant-loop-i decreases-loop-i) → (at t).loop-i.i < length (start t).args.counts.now
 within t = t.loop-i-test.true
 
 few : (t : tie.After-tracked-st invariant-loop-i decreases-loop-i) → length (start t).args.counts.now ≤ block_limit
-few t = (at t).before.before.before.if1.false
+few t = (at t).before.before.before.if-counts-gt-BLOCK_LIMIT.false
 
 abbrev count : tie.After-tracked-st invariant-loop-i decreases-loop-i → ℤ
-count t = get_or (start t).args.counts.now (at t).loop.i (pos 0)
+count t = get_or (start t).args.counts.now (at t).loop-i.i (pos 0)
 
 last : (q : tie.After-struct_told-1 invariant-loop-i decreases-loop-i) → SFits w32 q.loop-i.st.book.last
 last q = search (sfits_of, q.struct_told-1.given.0)
@@ -132,7 +132,7 @@ parts : (t : tie.After-tracked-st invariant-loop-i decreases-loop-i) →
     let q = w.before.before in
     let r = q.before.before in
     let a = (start t).args in
-    Parts a.s a.contact (at t).loop.st (count t) r.raw_of-raw.result q.steadied-steadied.result w.book_tick-st.result w.weigh-x.result
+    Parts a.s a.contact (at t).loop-i.st (count t) r.raw_of-raw.result q.steadied-steadied.result w.book_tick-st.result w.weigh-x.result
     i.is_idle-idle.result t.tracked-st.result
 parts t =
     let i = t.before in
@@ -141,7 +141,7 @@ parts t =
     let r = q.before.before in
     record {
       raws = simp (to_z-of_z {w = w32} {z = count t} (record { sfits = r.count-1.given })) at r.raw_of-raw.ensures;
-      steadied = simp (to_z-of_z (last q.before)) at q.steadied-steadied.ensures;
+      steadied = simp (to_z-of_z (last q.before.before.before.before)) at q.steadied-steadied.ensures;
       booked = w.book_tick-st.ensures;
       weighed = w.weigh-x.ensures;
       idles = i.is_idle-idle.ensures;
@@ -153,12 +153,12 @@ stepped : (j : tie.Joined-not-idle invariant-loop-i decreases-loop-i) →
     let t = j.before in
     let w = t.before.before.before in
     let q = w.before.before in
-    j.if-not-idle.st ≡ stepped_of (start t).args.s (parts_of (at t).loop.st w.book_tick-st.result q.steadied-steadied.result t.tracked-st.result) w.weigh-x.result
+    j.if-not-idle.st ≡ stepped_of (start t).args.s (parts_of (at t).loop-i.st w.book_tick-st.result q.steadied-steadied.result t.tracked-st.result) w.weigh-x.result
 stepped j =
     let t = j.before in
     let p = parts t in
-    let same : idle_of (at t).loop.st.sequence.stage ≡ false → (start t).args.st.setpoints ≡ (at t).loop.st.setpoints
-    = λ runs. sym ((at t).loop.invariant.2 runs) in
+    let same : idle_of (at t).loop-i.st.sequence.stage ≡ false → (start t).args.st.setpoints ≡ (at t).loop-i.st.setpoints
+    = λ runs. sym ((at t).loop-i.invariant.2 runs) in
     let x = t.weigh-x.result in
     ⊎_elim
     (λ f.
@@ -186,7 +186,7 @@ stepped j =
 
 counted : (j : tie.Joined-not-idle invariant-loop-i decreases-loop-i) →
     let t = j.before in
-    j.if-not-idle.st ≡ count_in (start t).args.s (start t).args.contact (at t).loop.st (count t)
+    j.if-not-idle.st ≡ count_in (start t).args.s (start t).args.contact (at t).loop-i.st (count t)
 unfolding count_in
 counted j = stepped j ∙ parts_next (parts j.before)
 

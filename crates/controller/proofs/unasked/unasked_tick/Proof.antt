@@ -65,7 +65,7 @@ outputs-requires : tie.Need-outputs-requires
 outputs-requires c κs = search rules
 
 last : (s : tie.Start) → SFits w32 s.args.st.book.last
-last s = search (sfits_of, s.well-formed.1.0)
+last s = search (sfits_of, s.well_formed.1.0)
 
 parts : (t : tie.After-tracked-st) →
     let i = t.before in
@@ -82,7 +82,7 @@ parts t =
     let r = q.before.before in
     record {
       raws = simp (to_z-of_z r.ranges.count) at r.raw_of-raw.ensures;
-      steadied = simp (to_z-of_z (last r.before)) at q.steadied-steadied.ensures;
+      steadied = simp (to_z-of_z (last r.before.before.before.before.before.before.before)) at q.steadied-steadied.ensures;
       booked = w.book_tick-st.ensures;
       weighed = w.weigh-x.ensures;
       idles = i.is_idle-idle.ensures;
