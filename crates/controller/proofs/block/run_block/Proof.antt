@@ -31,6 +31,7 @@ use Rattle.outline.proofs.AnswerLaws.{block_number_lem}
 use Rattle.outline.specs.Steps.{parts_of, Parts, parts_next, step_idle, step-on, step_back, step-finished, step_runs}
 use Rattle.controller.proofs.block.run_block.Statement.{statement}
 use Rattle.controller.proofs.block.run_block.Tie as tie
+use Rattle.controller.proofs.block.run_block.Lts.{then-a, else-a, then-not-idle+then-is_idle, then-not-idle+else-is_idle, else-not-idle}
 
 -- a fold over one element more
 fold_more : {A B : Type 0} (f : B → A → B) (b : B) (l : List A) (i : ℕ) (d : A) → i < length l → foldl f b (take (i + 1) l) ≡ f (foldl f b (take i l)) (get_or l i d)
@@ -160,29 +161,28 @@ stepped j =
     let same : idle_of (at t).loop-i.st.sequence.stage ≡ false → (start t).args.st.setpoints ≡ (at t).loop-i.st.setpoints
     = λ runs. sym ((at t).loop-i.invariant.2 runs) in
     let x = t.weigh-x.result in
-    ⊎_elim
-    (λ f.
-    let v = (be (got {w = w64} f.1.result f.1.ok) f.1.ensures).read in
-    let gross : SFits w32 x.gross = search (sfits_of, f.3.given.1.1.1.1.1.0) in
-    let advanced = simp (to_z-of_z gross) at f.4.ensures in
-    let runs = sym p.idles ∙ not-true _ f.0.taken in
-    let back = sym f.6.ensures ∙ f.7.taken in
-    f.11 ∙ ⊎_elim
-    (λ k. ap (λ (r : State). with_waiting (with_setpoints r f.9.result) f.10.result) k.3
-    ∙ step-finished _ _ _ _ _ _ _ (same runs) f.2.ensures v advanced _ _ runs back
-    (f.9.ensures ∙ (λ h. latest_of (same runs h) (k.3 h).waiting)) f.10.ensures
-    _ _ k.0.taken k.1.ensures k.2.ensures)
-    (λ k. ap (λ (r : State). with_waiting (with_setpoints r f.9.result) f.10.result) k.1
-    ∙ step_back _ _ _ _ _ _ _ (same runs) f.2.ensures v advanced _ _ runs back
-    (f.9.ensures ∙ (λ h. latest_of (same runs h) (k.1 h).waiting)) f.10.ensures k.0.left)
-    f.8.came)
-    (⊎_elim
-    (λ o. o.8 ∙ step-on _ _ _ _ _ _ _ (same (sym p.idles ∙ not-true _ o.0.taken)) o.2.ensures
-    (be (got {w = w64} o.1.result o.1.ok) o.1.ensures).read
-    (let gross : SFits w32 x.gross = search (sfits_of, o.3.given.1.1.1.1.1.0) in simp (to_z-of_z gross) at o.4.ensures)
-    (sym o.6.ensures ∙ o.7.left))
-    (λ n. n.1 ∙ step_idle _ _ _ (sym p.idles ∙ not-false _ n.0.left)))
-    j.if-not-idle.branch
+    elim j.if-not-idle.branch
+    [ then-not-idle+then-is_idle f ↦
+    let v = (be (got {w = w64} f.compared-v.result f.compared-v.type_inv) f.compared-v.ensures).read in
+    let gross : SFits w32 x.gross = search (sfits_of, f.struct_told-then-not-idle-1.given.1.1.1.1.1.0) in
+    let advanced = simp (to_z-of_z gross) at f.advance-a.ensures in
+    let runs = sym p.idles ∙ f.if-not-idle.true in
+    let back = sym f.is_idle.ensures ∙ f.if-is_idle.true in
+    f.st-is ∙ elim f.if-a.branch
+    [ then-a k ↦ ap (λ (r : State). with_waiting (with_setpoints r f.latest-st.result) f.none_waiting-st.result) k.st-is
+    ∙ step-finished _ _ _ _ _ _ _ (same runs) f.is_fit-fit.ensures v advanced _ _ runs back
+    (f.latest-st.ensures ∙ (λ h. latest_of (same runs h) (k.st-is h).waiting)) f.none_waiting-st.ensures
+    _ _ k.if-a.true k.booked_sequence-st.ensures k.booked_totals-st.ensures
+    | else-a k ↦ ap (λ (r : State). with_waiting (with_setpoints r f.latest-st.result) f.none_waiting-st.result) k.st-is
+    ∙ step_back _ _ _ _ _ _ _ (same runs) f.is_fit-fit.ensures v advanced _ _ runs back
+    (f.latest-st.ensures ∙ (λ h. latest_of (same runs h) (k.st-is h).waiting)) f.none_waiting-st.ensures k.if-a.false ]
+    | then-not-idle+else-is_idle o ↦
+    let v = (be (got {w = w64} o.compared-v.result o.compared-v.type_inv) o.compared-v.ensures).read in
+    let gross : SFits w32 x.gross = search (sfits_of, o.struct_told-then-not-idle-1.given.1.1.1.1.1.0) in
+    let advanced = simp (to_z-of_z gross) at o.advance-a.ensures in
+    o.st-is ∙ step-on _ _ _ _ _ _ _ (same (sym p.idles ∙ o.if-not-idle.true)) o.is_fit-fit.ensures v advanced
+    (sym o.is_idle.ensures ∙ o.if-is_idle.false)
+    | else-not-idle n ↦ n.st-is ∙ step_idle _ _ _ (sym p.idles ∙ n.if-not-idle.false) ]
 
 counted : (j : tie.Joined-not-idle invariant-loop-i decreases-loop-i) →
     let t = j.before in
@@ -203,12 +203,12 @@ loop-i-preserved c =
     let h = within t in (
       omega (arith, h),
       counted c
-          ∙ ap (λ (st : State). count_in a.s a.contact st (count t)) (at t).loop.invariant.1
-          ∙ sym (fold_more (count_in a.s a.contact) a.st a.counts.now (at t).loop.i (pos 0) h),
+          ∙ ap (λ (st : State). count_in a.s a.contact st (count t)) (at t).loop-i.invariant.1
+          ∙ sym (fold_more (count_in a.s a.contact) a.st a.counts.now (at t).loop-i.i (pos 0) h),
       λ e.
           let same = stepped c in
           let runs = step_runs a.s _ _ (sym (ap (λ (st : State). idle_of st.sequence.stage) same) ∙ e) in
-          ap (λ (st : State). st.setpoints) same ∙ runs.1 ∙ (at t).loop.invariant.2 runs.0,
+          ap (λ (st : State). st.setpoints) same ∙ runs.1 ∙ (at t).loop-i.invariant.2 runs.0,
     )
 
 returns : tie.Need-returns invariant-loop-i decreases-loop-i

@@ -18,6 +18,7 @@ use Rattle.outline.proofs.AnswerLaws.{unasked_number}
 use Rattle.outline.specs.Steps.{parts_of, Parts, parts_tick, step_idle, step-on, step_back, step-finished}
 use Rattle.controller.proofs.unasked.unasked_tick.Statement.{statement}
 use Rattle.controller.proofs.unasked.unasked_tick.Tie as tie
+use Rattle.controller.proofs.unasked.unasked_tick.Lts.{then-a, else-a, then-not-idle+then-is_idle, then-not-idle+else-is_idle, else-not-idle}
 
 raw_of-raw-requires : tie.Need-raw_of-raw-requires
 raw_of-raw-requires c κs = search rules
@@ -99,29 +100,27 @@ stepped : (j : tie.Joined-not-idle) →
 stepped j =
     let p = parts j.before in
     let x = j.weigh-x.result in
-    ⊎_elim
-    (λ f.
-    let v = (be (got {w = w64} f.2.result f.2.ok) f.2.ensures).read in
-    let gross : SFits w32 x.gross = search (sfits_of, f.4.given) in
-    let advanced = simp (to_z-of_z gross) at f.5.ensures in
-    let runs = sym p.idles ∙ not-true _ f.0.taken in
-    let back = sym f.7.ensures ∙ f.8.taken in
-    f.12 ∙ ⊎_elim
-    (λ k. ap (λ (r : State). with_waiting (with_setpoints r f.10.result) f.11.result) k.3
-    ∙ step-finished _ _ _ _ _ _ _ refl f.3.ensures v advanced _ _ runs back
-    (f.10.ensures ∙ ap (λ (r : State). latest_of r.setpoints r.waiting) k.3) f.11.ensures
-    _ _ k.0.taken k.1.ensures k.2.ensures)
-    (λ k. ap (λ (r : State). with_waiting (with_setpoints r f.10.result) f.11.result) k.1
-    ∙ step_back _ _ _ _ _ _ _ refl f.3.ensures v advanced _ _ runs back
-    (f.10.ensures ∙ ap (λ (r : State). latest_of r.setpoints r.waiting) k.1) f.11.ensures k.0.left)
-    f.9.came)
-    (⊎_elim
-    (λ o. o.9 ∙ step-on _ _ _ _ _ _ _ refl o.3.ensures
-    (be (got {w = w64} o.2.result o.2.ok) o.2.ensures).read
-    (let gross : SFits w32 x.gross = search (sfits_of, o.4.given) in simp (to_z-of_z gross) at o.5.ensures)
-    (sym o.7.ensures ∙ o.8.left))
-    (λ n. n.1 ∙ step_idle _ _ _ (sym p.idles ∙ not-false _ n.0.left)))
-    j.if-not-idle.branch
+    elim j.if-not-idle.branch
+    [ then-not-idle+then-is_idle f ↦
+    let v = (be (got {w = w64} f.compared-v.result f.compared-v.type_inv) f.compared-v.ensures).read in
+    let gross : SFits w32 x.gross = search (sfits_of, f.struct_told-then-not-idle-1.given) in
+    let advanced = simp (to_z-of_z gross) at f.advance-a.ensures in
+    let runs = sym p.idles ∙ f.if-not-idle.true in
+    let back = sym f.is_idle.ensures ∙ f.if-is_idle.true in
+    f.st-is ∙ elim f.if-a.branch
+    [ then-a k ↦ ap (λ (r : State). with_waiting (with_setpoints r f.latest-st.result) f.none_waiting-st.result) k.st-is
+    ∙ step-finished _ _ _ _ _ _ _ refl f.is_fit-fit.ensures v advanced _ _ runs back
+    (f.latest-st.ensures ∙ ap (λ (r : State). latest_of r.setpoints r.waiting) k.st-is) f.none_waiting-st.ensures
+    _ _ k.if-a.true k.booked_sequence-st.ensures k.booked_totals-st.ensures
+    | else-a k ↦ ap (λ (r : State). with_waiting (with_setpoints r f.latest-st.result) f.none_waiting-st.result) k.st-is
+    ∙ step_back _ _ _ _ _ _ _ refl f.is_fit-fit.ensures v advanced _ _ runs back
+    (f.latest-st.ensures ∙ ap (λ (r : State). latest_of r.setpoints r.waiting) k.st-is) f.none_waiting-st.ensures k.if-a.false ]
+    | then-not-idle+else-is_idle o ↦
+    let v = (be (got {w = w64} o.compared-v.result o.compared-v.type_inv) o.compared-v.ensures).read in
+    let gross : SFits w32 x.gross = search (sfits_of, o.struct_told-then-not-idle-1.given) in
+    let advanced = simp (to_z-of_z gross) at o.advance-a.ensures in
+    o.st-is ∙ step-on _ _ _ _ _ _ _ refl o.is_fit-fit.ensures v advanced (sym o.is_idle.ensures ∙ o.if-is_idle.false)
+    | else-not-idle n ↦ n.st-is ∙ step_idle _ _ _ (sym p.idles ∙ n.if-not-idle.false) ]
 
 returns : tie.Need-returns
 returns c =
