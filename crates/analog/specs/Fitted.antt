@@ -1,6 +1,6 @@
 -- Whether there is an analog board: asked first, so that without one nothing is worked out.
 use Rattle.std.specs.Prelude.{Bool, true, false, ◌≡◌, refl, T, Float}
-use Rattle.std.proofs.Common.{sym, subst}
+use Rattle.std.proofs.Common.{subst}
 use Rattle.types.specs.declared.analog.Board.{Board}
 use Rattle.types.specs.declared.analog.Board.TheVariants as board
 use Rattle.types.specs.declared.analog.Analog.TheVariants as analog

@@ -21,7 +21,7 @@ use Rattle.types.specs.declared.stages.Totals.{Totals}
 use Rattle.types.specs.declared.stages.Waiting.{Waiting}
 use Rattle.types.specs.declared.machine.State.{State}
 use Rattle.outline.specs.Settings.{settings_of}
-use Rattle.images.specs.StateImage.{stage_timer, back_weight, state_length, book_rows, book_numbers, book_of, stability_rows, stability_numbers, stability_of, weighing_rows, weighing_numbers, weighing_of, panel_rows, panel_numbers, panel_of, setpoint_rows, setpoint_numbers, setpoints_of, sequence_rows, sequence_numbers, sequence_of, totals_rows, totals_numbers, totals_of, write_points, waiting_rows, waiting_numbers, waiting_of, state_rows, state_numbers, put_state, image_of, state_at}
+use Rattle.images.specs.StateImage.{state_length, book_rows, book_numbers, book_of, stability_rows, stability_numbers, stability_of, weighing_rows, weighing_numbers, weighing_of, panel_rows, panel_numbers, panel_of, setpoint_rows, setpoint_numbers, setpoints_of, sequence_rows, sequence_numbers, sequence_of, totals_rows, totals_numbers, totals_of, write_points, waiting_rows, waiting_numbers, waiting_of, state_rows, state_numbers, put_state, image_of, state_at}
 use Rattle.images.specs.Holds.{HeldBook, HeldWeighing, HeldSetpoints, HeldSequence, HeldTotals, HeldState}
 use Rattle.images.specs.Possible.{possible}
 use Rattle.images.specs.Images.{state_refusal, state_in}

@@ -13,11 +13,8 @@ use Rattle.types.specs.declared.stages.SequenceError.TheVariants as error
 use Rattle.types.specs.declared.stages.Judgement.{Judgement}
 use Rattle.types.specs.declared.stages.Judgement.TheVariants as judgement
 use Rattle.types.specs.declared.stages.Batch.TheVariants as batch
-use Rattle.types.specs.declared.stages.Sequence.{Sequence}
 use Rattle.types.specs.declared.stages.Totals.{Totals}
 use Rattle.types.specs.declared.daybook.Book.{Book}
-use Rattle.types.specs.declared.weight.Stability.{Stability}
-use Rattle.types.specs.declared.weight.Weighing.{Weighing}
 use Rattle.types.specs.declared.machine.State.{State}
 use Rattle.outline.specs.Settings.{settings_of}
 use Rattle.outline.specs.Setpoints.{none_waiting, waiting_for}

@@ -2,7 +2,7 @@
 -- nothing.
 use mathlib.Core.Path.{◌≡◌, refl, sym, ap, ◌∙◌}
 use mathlib.Core.Bool.{Bool, true, false, cond, not, ◌&&◌}
-use mathlib.Core.List.{List, [], ◌∷◌}
+use mathlib.Core.List.{[], ◌∷◌}
 use Prim.Native.Nat.{suc}
 use lib.Dec.{leb}
 use lib.ListN.{length}
@@ -27,7 +27,6 @@ use Rattle.types.specs.declared.requests.Outcome.TheVariants as outcome
 use Rattle.types.specs.declared.machine.State.{State}
 use Rattle.types.specs.declared.machine.Input.{Input}
 use Rattle.types.specs.declared.machine.Settled.{Settled}
-use Rattle.types.specs.declared.lines.LineTick.{LineTick}
 use Rattle.outline.specs.Weight.{raw_of, weigh_of, steadied_of, fit_of, displayed_of}
 use Rattle.outline.specs.DayBook.{open_book, book_of}
 use Rattle.outline.specs.Zero.{tracking_on, calm_of, may_move, with_counter, moved_of, tracked_of}
@@ -38,11 +37,11 @@ use Rattle.outline.specs.Requests.{idle_now, rows_to, ruling_of, done_of, unless
 use Rattle.outline.specs.Tick.{entered_of, weights_of, settled_of, served_of, with_tracking, finished_of, stepped_of, ended_of, next_of, reading_of, outputs_of, tick_of, unasked_of}
 use Rattle.outline.specs.Analog.{analog_of}
 use Rattle.outline.specs.Replies.{asked_of, due_text, line_tick_of}
-use Rattle.outline.specs.Run.{run_from, contact_open}
-use Rattle.outline.specs.StaysTrue.{Connected, ZeroWhileConnected, AllClosed, Unmoved, ZeroThroughRefill, beside_day, beside_zero, AlikeOpen, ToZeroOnly}
+use Rattle.outline.specs.Run.{run_from}
+use Rattle.outline.specs.StaysTrue.{Connected, ZeroWhileConnected, ZeroThroughRefill, beside_day, beside_zero, ToZeroOnly}
 use Rattle.outline.specs.EveryLine.{ConnectedLine, ZeroWhileConnectedOnLine}
 use Rattle.whole.specs.Chains.{and_left, and_right}
-use Rattle.outline.proofs.Parts.{none_applies, cond_in, cond_same, and_no, clash}
+use Rattle.outline.proofs.Parts.{none_applies, cond_in, and_no, clash}
 use Rattle.outline.proofs.RangeWeighing.{ended_weighing}
 use Rattle.outline.proofs.ZeroStep.{Zeros, zeros_of, keyed_zeros, settled_zeros, none_keyed}
 

@@ -1,9 +1,8 @@
 -- A discharge and the feed: never open together, in any state; and a discharge is no batch: it leaves the totals and the judgement.
 -- Assumes nothing.
 use Prim.Native.Nat.{ℕ}
-use mathlib.Core.Path.{◌≡◌, refl, sym, ap, subst, ◌∙◌}
+use mathlib.Core.Path.{◌≡◌, refl, ap, ◌∙◌}
 use mathlib.Core.Bool.{Bool, true, false, cond, not, ◌&&◌, ◌||◌}
-use mathlib.Core.List.{List}
 use lib.Dec.{leb, eqb}
 use lib.ListN.{length}
 use lib.IntN.{ℤ}
@@ -20,7 +19,6 @@ use Rattle.types.specs.declared.stages.Stage.{Stage}
 use Rattle.types.specs.declared.stages.Stage.TheVariants.{Idle, StartDelay, LargeDisable, LargeFlow, MediumDisable, MediumFlow, SmallDisable, SmallFlow, JudgeDelay, JudgeWait, DischargeStart, Discharge, DischargeEnd}
 use Rattle.types.specs.declared.stages.Judgement.{Judgement}
 use Rattle.types.specs.declared.stages.Sequence.{Sequence}
-use Rattle.types.specs.declared.stages.Gates.{Gates}
 use Rattle.types.specs.declared.stages.Facts.{Facts}
 use Rattle.types.specs.declared.stages.Timing.{Timing}
 use Rattle.types.specs.declared.stages.Timing.TheVariants as timing
@@ -31,7 +29,6 @@ use Rattle.types.specs.declared.stages.Totals.{Totals}
 use Rattle.types.specs.declared.machine.State.{State}
 use Rattle.types.specs.declared.machine.Input.{Input}
 use Rattle.types.specs.declared.machine.Settled.{Settled}
-use Rattle.types.specs.declared.machine.Answer.{Answer}
 use Rattle.types.specs.declared.lines.LineTick.{LineTick}
 use Rattle.outline.specs.Stages.{compared_of, facts_of, wait_of, timed, until, move_of, idle_of, discharging_of, late_of, slow_of, stop_sequence, land_of, advance_of, medium_of, gates_of}
 use Rattle.outline.specs.Totals.{bookable, booked_sequence}
@@ -40,7 +37,7 @@ use Rattle.outline.specs.Numbers.{stage_number}
 use Rattle.outline.specs.Kinds.{request_kind}
 use Rattle.outline.specs.Tick.{entered_of, settled_of, served_of, with_tracking, finished_of, stepped_of, ended_of, next_of, outputs_of, tick_of, unasked_of}
 use Rattle.outline.specs.Replies.{asked_of, due_text, line_tick_of}
-use Rattle.outline.specs.Ledger.{passed_over, clock_passed, finishes, event_of}
+use Rattle.outline.specs.Ledger.{finishes, event_of}
 use Rattle.outline.specs.StaysTrue.{both_open, NeverTogether, totals_asked, Kept, DischargeIsNoBatch}
 use Rattle.outline.specs.EveryLine.{NeverTogetherOnLine}
 use Rattle.outline.proofs.Parts.{cond_in, and_no, clash, none_applies}

@@ -2,7 +2,7 @@
 use mathlib.Core.Path.{refl, ap}
 use Rattle.whole.specs.Nearest.{nearest_n, nearest_of}
 use Rattle.whole.specs.Limit.{limit_to}
-use Rattle.outline.specs.Settings.{counts_fit, capacity_fits, division_fits, zero_range_fits, tracking_fits, stability_fits, mode_fits, delays_fit, flow_fits, address_fits, analog_fits, discharge_fits, settings_fit, settings_of, open_of}
+use Rattle.outline.specs.Settings.{settings_of}
 use Rattle.outline.specs.Weight.{raw_of, weigh_of, steadied_of}
 use Rattle.outline.specs.DayBook.{limit_of, booked_of, later_good, book_of, closed_of}
 use Rattle.outline.specs.Zero.{tracked_of}

@@ -1,5 +1,4 @@
 -- An opening gives a state exactly where it answers 0: by its two answers. Assumes nothing.
-use Prim.Native.Nat.{ℕ}
 use native.Mathlib.Omega.{arith}
 use mathlib.Core.Path.{◌≡◌, refl}
 use mathlib.Core.List.{[], ◌∷◌}

@@ -31,7 +31,7 @@ use Rattle.types.specs.declared.machine.State.{State}
 use Rattle.types.specs.declared.machine.Input.{Input}
 use Rattle.types.specs.declared.machine.Settled.{Settled}
 use Rattle.outline.specs.Setpoints.{no_large_flow}
-use Rattle.outline.specs.Stages.{compared_of, facts_of, wait_of, timed, until, after_large, first_flow, after_start, judged_of, move_of, idle_of, flowing_of, emptying_of, discharging_of, clock_of, late_of, slow_of, failed_of, start_sequence, discharge_sequence, stop_error, stop_sequence, land_of, advance_of}
+use Rattle.outline.specs.Stages.{compared_of, facts_of, wait_of, timed, until, after_large, first_flow, after_start, judged_of, move_of, idle_of, flowing_of, emptying_of, discharging_of, clock_of, late_of, slow_of, start_sequence, discharge_sequence, stop_error, stop_sequence, land_of, advance_of}
 use Rattle.outline.specs.Totals.{bookable, booked_sequence}
 use Rattle.outline.specs.Requests.{loss_mode, rows_to, done_of, ruling_of, granted_of, decided_of}
 use Rattle.outline.specs.Tick.{entered_of, settled_of, with_tracking, finished_of, stepped_of, ended_of, next_of}

@@ -1,6 +1,6 @@
 -- The setpoints in use keep the rules, and so do those waiting: an accepted SS alone writes them. Assumes nothing.
 use mathlib.Core.Path.{◌≡◌, refl}
-use mathlib.Core.Bool.{Bool, true, cond, not}
+use mathlib.Core.Bool.{true, not}
 use borrow.Author.Tests.{not-false}
 use Rattle.types.specs.declared.settings.Mode.{Mode}
 use Rattle.types.specs.declared.settings.Mode.TheVariants as mode
@@ -14,7 +14,7 @@ use Rattle.types.specs.declared.stages.Write.TheVariants as write
 use Rattle.types.specs.declared.stages.Waiting.{Waiting}
 use Rattle.types.specs.declared.machine.State.{State}
 use Rattle.types.specs.declared.machine.Input.{Input}
-use Rattle.outline.specs.Setpoints.{open_setpoints, setpoints_fit, none_waiting, written_else, latest_of}
+use Rattle.outline.specs.Setpoints.{open_setpoints, setpoints_fit, written_else}
 use Rattle.outline.specs.Requests.{idle_now, rows_to, done_of, ruling_of, granted_of, decided_of}
 use Rattle.outline.specs.Tick.{entered_of, settled_of, served_of, next_of}
 use Rattle.outline.specs.Ranges.{write_fits}

@@ -34,7 +34,7 @@ use Rattle.types.specs.declared.machine.Settled.{Settled}
 use Rattle.outline.specs.Weight.{raw_of, weigh_of, steadied_of}
 use Rattle.outline.specs.DayBook.{later_good, book_of, closed_of}
 use Rattle.outline.specs.Zero.{tracking_on, calm_of, tracked_of}
-use Rattle.outline.specs.Setpoints.{none_waiting, waiting_for, no_large_flow}
+use Rattle.outline.specs.Setpoints.{none_waiting, no_large_flow}
 use Rattle.outline.specs.Stages.{compared_of, facts_of, wait_of, timed, until, after_large, first_flow, after_start, judged_of, move_of, idle_of, late_of, slow_of, stop_sequence, land_of, advance_of}
 use Rattle.outline.specs.Totals.{bookable, booked_sequence}
 use Rattle.outline.specs.Requests.{idle_now, rows_to, done_of, ruling_of, granted_of, decided_of}

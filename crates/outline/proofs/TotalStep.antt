@@ -23,7 +23,7 @@ use Rattle.types.specs.declared.machine.Input.{Input}
 use Rattle.types.specs.declared.machine.Settled.{Settled}
 use Rattle.outline.specs.Limits.{total_limit, batch_limit}
 use Rattle.outline.specs.Stages.{compared_of, facts_of, advance_of}
-use Rattle.outline.specs.Totals.{clear_totals, bookable, grown_of, booked_totals, none_back, less_batch, taken_back}
+use Rattle.outline.specs.Totals.{bookable, grown_of, booked_totals, none_back, less_batch, taken_back}
 use Rattle.outline.specs.Requests.{ruling_of, done_of, granted_of, decided_of}
 use Rattle.outline.specs.Tick.{entered_of, settled_of, served_of, with_tracking, finished_of, stepped_of, ended_of, next_of}
 use Rattle.outline.specs.Kinds.{Asked, nothing, undo, clear, request_kind}

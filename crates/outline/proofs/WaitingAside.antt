@@ -16,7 +16,7 @@ use Rattle.types.specs.declared.machine.Settled.{Settled}
 use Rattle.outline.specs.Weight.{raw_of}
 use Rattle.outline.specs.Parts.{with_setpoints, with_waiting}
 use Rattle.outline.specs.Requests.{idle_now, ruling_of, unless_refused, granted_of, decided_of}
-use Rattle.outline.specs.Tick.{entered_of, weights_of, settled_of, served_of, with_tracking, finished_of, stepped_of, ended_of, next_of, unasked_of}
+use Rattle.outline.specs.Tick.{entered_of, weights_of, settled_of, served_of, with_tracking, finished_of, stepped_of, ended_of, next_of}
 use Rattle.outline.specs.Run.{without_request}
 use Rattle.outline.specs.StaysTrue.{beside_sets, WaitingAside, WriteAside}
 use Rattle.outline.proofs.Parts.{clash}

@@ -1,7 +1,7 @@
 -- What waits is the last accepted write since the stage was last 00, the set in use stays while it is not 00, and what RS reads is the last
 -- accepted write of all. Assumes nothing.
 use mathlib.Core.Path.{◌≡◌, refl, sym, ap, ◌∙◌}
-use mathlib.Core.Bool.{Bool, true, false, cond, not}
+use mathlib.Core.Bool.{Bool, true, false, cond}
 use Rattle.types.specs.declared.settings.Settings.{Settings}
 use Rattle.types.specs.declared.weight.Weights.{Weights}
 use Rattle.types.specs.declared.requests.Request.{Request}
@@ -20,7 +20,7 @@ use Rattle.outline.specs.Requests.{idle_now, done_of, grant_of, ruling_of, grant
 use Rattle.outline.specs.Tick.{open_state, entered_of, settled_of, served_of, next_of, outputs_of, tick_of}
 use Rattle.outline.specs.Kinds.{request_kind}
 use Rattle.outline.specs.Run.{History, start, ◌▷◌, run_of}
-use Rattle.outline.specs.Writes.{points_seen, points_run, replaces, written_since, written_last}
+use Rattle.outline.specs.Writes.{points_seen, points_run, replaces, written_last}
 use Rattle.outline.specs.StaysTrue.{WaitingOfWrites, InUseStays, LatestOfWrites}
 use Rattle.outline.proofs.Parts.{clash}
 use Rattle.outline.proofs.RangeTogether.{stop_idle, rest_stays, ended_runs}

@@ -1,7 +1,6 @@
 -- Worked by hand from request A5: setpoints that are written while a batch or a discharge runs. Statements; they are computed in
 -- proofs/WaitingFigures.antt.
-use Rattle.std.specs.Prelude.{ℕ, ◌≡◌, Bool, true, false, List, [], ◌∷◌, ◌++◌, ℤ, pos}
-use Rattle.types.specs.declared.requests.Request.{Request}
+use Rattle.std.specs.Prelude.{ℕ, ◌≡◌, true, false, [], ◌∷◌, ℤ, pos}
 use Rattle.types.specs.declared.requests.Request.TheVariants as request
 use Rattle.types.specs.declared.stages.Setpoints.{Setpoints}
 use Rattle.types.specs.declared.stages.Waiting.{Waiting}
@@ -10,7 +9,7 @@ use Rattle.outline.specs.Setpoints.{open_setpoints, none_waiting, waiting_for}
 use Rattle.outline.specs.Tick.{open_state}
 use Rattle.outline.specs.Replies.{line_tick_of}
 use Rattle.outline.specs.Figures.{tick_at, told, setpoints}
-use Rattle.outline.specs.Worked.{Leg, leg, line, reply}
+use Rattle.outline.specs.Worked.{leg, line, reply}
 use Rattle.outline.specs.Finishes.{state_after}
 use Rattle.outline.specs.RequestFigures.{settings10, after, number, standing}
 

@@ -6,7 +6,7 @@ use mathlib.Core.Bool.{Bool, true, false, ◌&&◌, ◌||◌, true≢false}
 use mathlib.Core.Logic.{◌⊎◌, inl, inr}
 use Prim.Native.Nat.{ℕ, zero, suc, ◌+◌, ◌-◌, ◌/◌, ◌%◌, ◌≤◌, ◌<◌}
 use native.Mathlib.Omega.{arith}
-use lib.Dec.{T, eqb, leb, ltb, leb→le, ltb→lt, le→leb, lt→ltb}
+use lib.Dec.{T, eqb, leb, ltb, leb→le, le→leb, lt→ltb}
 use lib.Ieee.Fits.{and_l, and_r, and_i}
 use lib.ListN.{length, get_or, set, replicate, length-replicate, get_or-eq_default}
 use lib.Seq.{get_or-set_other}

@@ -3,7 +3,6 @@
 use mathlib.Core.Path.{◌≡◌, refl, sym, ap, ◌∙◌, subst}
 use mathlib.Core.List.{List, [], ◌∷◌, ◌++◌}
 use mathlib.Core.Bool.{Bool, true, false, cond, ◌&&◌, true≢false}
-use mathlib.Core.Logic.{◌≢◌}
 use Prim.Native.Nat.{ℕ, zero, suc, ◌+◌, ◌-◌, ◌*◌, ◌/◌, ◌%◌, ◌^◌, ◌≤◌, ◌<◌}
 use native.Mathlib.Nat.{add-zero, zero-add, add-suc, add_assoc, add-mul, mul-one, mul_assoc, pow-suc, pow-succ', div-one, div-div-eq-div-mul, div-add-mod', div-lt_iff_lt-mul, mod-lt, zero-lt-suc, ne_of_lt}
 use native.Mathlib.Omega.{arith}
@@ -11,8 +10,8 @@ use lib.Arith.{digits_div, digits_mod, mod-mul}
 use lib.Dec.{T, eqb}
 use lib.IntN.{ℤ, pos, negsuc, nat_abs, ◌-ℤ◌}
 use lib.Signed.{mag, lt_z, non_neg}
-use lib.ListN.{length, get_or, set, take, replicate, length-set}
-use lib.Seq.{get_or-set_same, get_or-set_other, set-get_or, take-length}
+use lib.ListN.{length, get_or, set, replicate, length-set}
+use lib.Seq.{get_or-set_same, get_or-set_other, set-get_or}
 use borrow.Author.Tests.{le-ltb, ltb-true, eqb-true, eq-eqb}
 use mir.Syntax.{Width}
 use mir.Val.{SFits, Fits, bits, hbits, sel}

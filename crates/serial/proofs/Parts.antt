@@ -10,7 +10,6 @@ use lib.IntN.{ℤ}
 use Rattle.types.specs.declared.settings.Settings.{Settings}
 use Rattle.types.specs.declared.requests.Request.{Request}
 use Rattle.types.specs.declared.machine.State.{State}
-use Rattle.types.specs.declared.machine.Input.{Input}
 use Rattle.types.specs.declared.machine.Ticked.{Ticked}
 use Rattle.types.specs.declared.lines.Command.{Command}
 use Rattle.types.specs.declared.lines.Reply.{Reply}

@@ -1,6 +1,5 @@
 -- Past the calls the answer is the board's, of the clipped x (`valued`); each arm cites it with its own board.
 use borrow.Author.Rules.{rules}
-use borrow.Author.Tests.{not-true, not-false}
 use mathlib.Core.Path.{◌≡◌, sym, ◌∙◌, ap}
 use mathlib.Core.Bool.{Bool, true, false}
 use mir.Facts.{to_z-of_z}

@@ -1,12 +1,9 @@
 -- Steps 1 to 5 are told call by call; where the ways of step 4 meet, and those of step 6, each is a case of its definition.
 use borrow.Author.Rules.{rules}
-use borrow.Author.Tests.{not-true, not-false}
 use mathlib.Core.Path.{◌≡◌, refl, ap, sym, ◌∙◌}
-use mathlib.Core.Logic.{⊎_elim}
 use mir.Syntax.{w32, w64}
 use mir.Val.{SFits}
 use mir.Facts.{to_z-of_z}
-use Rattle.types.specs.declared.requests.Request.{Request}
 use Rattle.types.specs.declared.requests.Outcome.TheVariants as outcome
 use Rattle.whole.specs.Bits.{got, be}
 use Rattle.whole.specs.Machine.{sfits_of}
@@ -17,7 +14,7 @@ use Rattle.outline.specs.Parts.{with_setpoints, with_waiting}
 use Rattle.outline.specs.Requests.{granted_of}
 use Rattle.outline.specs.Numbers.{outcome_number}
 use Rattle.outline.proofs.AnswerLaws.{tick_number}
-use Rattle.outline.specs.Tick.{next_of, tick_of}
+use Rattle.outline.specs.Tick.{next_of}
 use Rattle.outline.specs.Steps.{parts_of, step_idle, step-on, step_back, step-finished, left_of, left_by, left_nothing, left_zero, left_tare, left_tare_clear, left_start, left_stop, stopped_idle, stopped_runs, left_set, stored_idle, stored_runs, left_total_clear, left_undo, left_gross, left_net, left_close, left_discharge, Asked, asked_held, asked_stepped, asked_tick}
 use Rattle.controller.proofs.tick.Statement.{statement}
 use Rattle.controller.proofs.tick.Tie as tie
@@ -181,31 +178,32 @@ left : (m : tie.Joined-done) →
     ≡ granted_of (parts_of a.st k.book_tick-st.result q.steadied-st.result a.st.weighing) w.weigh-x.result g.granted-done.result
 left m =
     let x = m.weigh-x.result in
-    elim m.match-done.branch
-    [ in-Nothing f ↦ left_by f.st-is f.held-is f.keyed-is f.closed-is (left_nothing _ _ _ f.in-Nothing.is)
-    | in-Zero f ↦
-    let raw : SFits w32 x.raw = search (sfits_of, f.struct_told-in-Zero-1.given) in
-    left_by f.st-is f.held-is f.keyed-is f.closed-is (left_zero _ _ _ f.in-Zero.is _ (simp (to_z-of_z raw) at f.zeroed-st.ensures))
-    | in-Tare f ↦
-    let gross : SFits w32 x.gross = search (sfits_of, f.struct_told-in-Tare-1.given) in
-    left_by f.st-is f.held-is f.keyed-is f.closed-is (left_tare _ _ _ f.in-Tare.is _ (simp (to_z-of_z gross) at f.tared-st.ensures))
-    | in-TareClear f ↦ left_by f.st-is f.held-is f.keyed-is f.closed-is (left_tare_clear _ _ _ f.in-TareClear.is _ f.tared-st-in-TareClear.ensures)
-    | in-Start f ↦ left_by f.st-is f.held-is f.keyed-is f.closed-is (left_start _ _ _ f.in-Start.is _ f.start_sequence-st.ensures)
-    | in-Stop+then-not-is_idle f ↦ left_by f.st-is f.held-is f.keyed-is f.closed-is
-    (left_stop _ _ _ f.in-Stop.is _
-    (stopped_runs _ (sym f.is_idle.ensures ∙ f.if-not-is_idle.true) _ _ _ f.stop_sequence-st.ensures f.latest-st.ensures f.none_waiting-st.ensures))
-    | in-Stop+else-not-is_idle f ↦ left_by f.st-is f.held-is f.keyed-is f.closed-is
-    (left_stop _ _ _ f.in-Stop.is _ (stopped_idle _ (sym f.is_idle.ensures ∙ f.if-not-is_idle.false)))
-    | in-Set+then-is_idle f ↦ left_by f.st-is f.held-is f.keyed-is f.closed-is
-    (left_set _ _ _ _ f.in-Set.is _ (stored_idle _ _ (sym f.is_idle-in-Set.ensures ∙ f.if-is_idle.true)))
-    | in-Set+else-is_idle f ↦ left_by f.st-is f.held-is f.keyed-is f.closed-is
-    (left_set _ _ _ _ f.in-Set.is _ (stored_runs _ _ (sym f.is_idle-in-Set.ensures ∙ f.if-is_idle.false) _ f.waiting_for-st.ensures))
-    | in-TotalClear f ↦ left_by f.st-is f.held-is f.keyed-is f.closed-is (left_total_clear _ _ _ f.in-TotalClear.is _ f.clear_totals-st.ensures)
-    | in-Undo f ↦ left_by f.st-is f.held-is f.keyed-is f.closed-is (left_undo _ _ _ f.in-Undo.is _ f.take_back-st.ensures)
-    | in-ShowGross f ↦ left_by f.st-is f.held-is f.keyed-is f.closed-is (left_gross _ _ _ f.in-ShowGross.is)
-    | in-ShowNet f ↦ left_by f.st-is f.held-is f.keyed-is f.closed-is (left_net _ _ _ f.in-ShowNet.is)
-    | in-DayClose f ↦ left_by f.st-is f.held-is f.keyed-is f.closed-is (left_close _ _ _ f.in-DayClose.is _ f.closed_book-st.ensures)
-    | in-Discharge f ↦ left_by f.st-is f.held-is f.keyed-is f.closed-is (left_discharge _ _ _ f.in-Discharge.is _ f.discharge_sequence-st.ensures) ]
+    elim m.match-done.branch [
+      | in-Nothing f ↦ left_by f.st-is f.held-is f.keyed-is f.closed-is (left_nothing _ _ _ f.in-Nothing.is)
+      | in-Zero f ↦
+          let raw : SFits w32 x.raw = search (sfits_of, f.struct_told-in-Zero-1.given) in
+          left_by f.st-is f.held-is f.keyed-is f.closed-is (left_zero _ _ _ f.in-Zero.is _ (simp (to_z-of_z raw) at f.zeroed-st.ensures))
+      | in-Tare f ↦
+          let gross : SFits w32 x.gross = search (sfits_of, f.struct_told-in-Tare-1.given) in
+          left_by f.st-is f.held-is f.keyed-is f.closed-is (left_tare _ _ _ f.in-Tare.is _ (simp (to_z-of_z gross) at f.tared-st.ensures))
+      | in-TareClear f ↦ left_by f.st-is f.held-is f.keyed-is f.closed-is (left_tare_clear _ _ _ f.in-TareClear.is _ f.tared-st-in-TareClear.ensures)
+      | in-Start f ↦ left_by f.st-is f.held-is f.keyed-is f.closed-is (left_start _ _ _ f.in-Start.is _ f.start_sequence-st.ensures)
+      | in-Stop+then-not-is_idle f ↦ left_by f.st-is f.held-is f.keyed-is f.closed-is
+          (left_stop _ _ _ f.in-Stop.is _
+          (stopped_runs _ (sym f.is_idle.ensures ∙ f.if-not-is_idle.true) _ _ _ f.stop_sequence-st.ensures f.latest-st.ensures f.none_waiting-st.ensures))
+      | in-Stop+else-not-is_idle f ↦ left_by f.st-is f.held-is f.keyed-is f.closed-is
+          (left_stop _ _ _ f.in-Stop.is _ (stopped_idle _ (sym f.is_idle.ensures ∙ f.if-not-is_idle.false)))
+      | in-Set+then-is_idle f ↦ left_by f.st-is f.held-is f.keyed-is f.closed-is
+          (left_set _ _ _ _ f.in-Set.is _ (stored_idle _ _ (sym f.is_idle-in-Set.ensures ∙ f.if-is_idle.true)))
+      | in-Set+else-is_idle f ↦ left_by f.st-is f.held-is f.keyed-is f.closed-is
+          (left_set _ _ _ _ f.in-Set.is _ (stored_runs _ _ (sym f.is_idle-in-Set.ensures ∙ f.if-is_idle.false) _ f.waiting_for-st.ensures))
+      | in-TotalClear f ↦ left_by f.st-is f.held-is f.keyed-is f.closed-is (left_total_clear _ _ _ f.in-TotalClear.is _ f.clear_totals-st.ensures)
+      | in-Undo f ↦ left_by f.st-is f.held-is f.keyed-is f.closed-is (left_undo _ _ _ f.in-Undo.is _ f.take_back-st.ensures)
+      | in-ShowGross f ↦ left_by f.st-is f.held-is f.keyed-is f.closed-is (left_gross _ _ _ f.in-ShowGross.is)
+      | in-ShowNet f ↦ left_by f.st-is f.held-is f.keyed-is f.closed-is (left_net _ _ _ f.in-ShowNet.is)
+      | in-DayClose f ↦ left_by f.st-is f.held-is f.keyed-is f.closed-is (left_close _ _ _ f.in-DayClose.is _ f.closed_book-st.ensures)
+      | in-Discharge f ↦ left_by f.st-is f.held-is f.keyed-is f.closed-is (left_discharge _ _ _ f.in-Discharge.is _ f.discharge_sequence-st.ensures)
+    ]
 
 parts : (t : tie.After-tracked-st) →
     let i = t.before in
@@ -251,28 +249,30 @@ stepped : (j : tie.Joined-not-held) →
 stepped j =
     let p = parts j.before in
     let x = j.weigh-served.result in
-    elim j.if-not-held.branch
-    [ then-not-held+then-not-idle+then-is_idle-2 f ↦
-    let v = (be (got {w = w64} f.compared-v.result f.compared-v.type_inv) f.compared-v.ensures).read in
-    let gross : SFits w32 x.gross = search (sfits_of, f.struct_told-then-not-idle-1.given) in
-    let advanced = simp (to_z-of_z gross) at f.advance-a.ensures in
-    let runs = sym p.idles ∙ f.if-not-idle.true in
-    let back = sym f.is_idle-then-not-idle.ensures ∙ f.if-is_idle-2.true in
-    asked_stepped p f.if-not-held.true _ (f.st-is ∙ elim f.if-a.branch
-    [ then-a k ↦ ap (λ (r : State). with_waiting (with_setpoints r f.latest-st-then-is_idle-2.result) f.none_waiting-st-then-is_idle-2.result) k.st-is
-    ∙ step-finished _ _ _ _ _ _ _ refl f.is_fit-fit.ensures v advanced _ _ runs back
-    (f.latest-st-then-is_idle-2.ensures ∙ ap (λ (r : State). latest_of r.setpoints r.waiting) k.st-is) f.none_waiting-st-then-is_idle-2.ensures
-    _ _ k.if-a.true k.booked_sequence-st.ensures k.booked_totals-st.ensures
-    | else-a k ↦ ap (λ (r : State). with_waiting (with_setpoints r f.latest-st-then-is_idle-2.result) f.none_waiting-st-then-is_idle-2.result) k.st-is
-    ∙ step_back _ _ _ _ _ _ _ refl f.is_fit-fit.ensures v advanced _ _ runs back
-    (f.latest-st-then-is_idle-2.ensures ∙ ap (λ (r : State). latest_of r.setpoints r.waiting) k.st-is) f.none_waiting-st-then-is_idle-2.ensures k.if-a.false ])
-    | then-not-held+then-not-idle+else-is_idle-2 o ↦
-    let v = (be (got {w = w64} o.compared-v.result o.compared-v.type_inv) o.compared-v.ensures).read in
-    let gross : SFits w32 x.gross = search (sfits_of, o.struct_told-then-not-idle-1.given) in
-    let advanced = simp (to_z-of_z gross) at o.advance-a.ensures in
-    asked_stepped p o.if-not-held.true _ (o.st-is ∙ step-on _ _ _ _ _ _ _ refl o.is_fit-fit.ensures v advanced (sym o.is_idle-then-not-idle.ensures ∙ o.if-is_idle-2.false))
-    | then-not-held+else-not-idle n ↦ asked_stepped p n.if-not-held.true _ (n.st-is ∙ step_idle _ _ _ (sym p.idles ∙ n.if-not-idle.false))
-    | else-not-held h ↦ h.st-is ∙ asked_held p h.if-not-held.false ]
+    elim j.if-not-held.branch [
+      | then-not-held+then-not-idle+then-is_idle-2 f ↦
+          let v = (be (got {w = w64} f.compared-v.result f.compared-v.type_inv) f.compared-v.ensures).read in
+          let gross : SFits w32 x.gross = search (sfits_of, f.struct_told-then-not-idle-1.given) in
+          let advanced = simp (to_z-of_z gross) at f.advance-a.ensures in
+          let runs = sym p.idles ∙ f.if-not-idle.true in
+          let back = sym f.is_idle-then-not-idle.ensures ∙ f.if-is_idle-2.true in
+          asked_stepped p f.if-not-held.true _ (f.st-is ∙ elim f.if-a.branch [
+            | then-a k ↦ ap (λ (r : State). with_waiting (with_setpoints r f.latest-st-then-is_idle-2.result) f.none_waiting-st-then-is_idle-2.result) k.st-is
+                ∙ step-finished _ _ _ _ _ _ _ refl f.is_fit-fit.ensures v advanced _ _ runs back
+                (f.latest-st-then-is_idle-2.ensures ∙ ap (λ (r : State). latest_of r.setpoints r.waiting) k.st-is) f.none_waiting-st-then-is_idle-2.ensures
+                _ _ k.if-a.true k.booked_sequence-st.ensures k.booked_totals-st.ensures
+            | else-a k ↦ ap (λ (r : State). with_waiting (with_setpoints r f.latest-st-then-is_idle-2.result) f.none_waiting-st-then-is_idle-2.result) k.st-is
+                ∙ step_back _ _ _ _ _ _ _ refl f.is_fit-fit.ensures v advanced _ _ runs back
+                (f.latest-st-then-is_idle-2.ensures ∙ ap (λ (r : State). latest_of r.setpoints r.waiting) k.st-is) f.none_waiting-st-then-is_idle-2.ensures k.if-a.false
+          ])
+      | then-not-held+then-not-idle+else-is_idle-2 o ↦
+          let v = (be (got {w = w64} o.compared-v.result o.compared-v.type_inv) o.compared-v.ensures).read in
+          let gross : SFits w32 x.gross = search (sfits_of, o.struct_told-then-not-idle-1.given) in
+          let advanced = simp (to_z-of_z gross) at o.advance-a.ensures in
+          asked_stepped p o.if-not-held.true _ (o.st-is ∙ step-on _ _ _ _ _ _ _ refl o.is_fit-fit.ensures v advanced (sym o.is_idle-then-not-idle.ensures ∙ o.if-is_idle-2.false))
+      | then-not-held+else-not-idle n ↦ asked_stepped p n.if-not-held.true _ (n.st-is ∙ step_idle _ _ _ (sym p.idles ∙ n.if-not-idle.false))
+      | else-not-held h ↦ h.st-is ∙ asked_held p h.if-not-held.false
+    ]
 
 returns : tie.Need-returns
 returns c =

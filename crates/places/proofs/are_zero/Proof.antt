@@ -1,7 +1,7 @@
 -- After i turns `zero` says whether the first i of the bytes are 0; past the end there are none to look at.
 use mathlib.Core.Path.{◌≡◌, refl, sym, ap, ◌∙◌}
 use mathlib.Core.Bool.{Bool, ◌&&◌}
-use Prim.Native.Nat.{ℕ, ◌+◌, ◌-◌, ◌≤◌, zero-le, min}
+use Prim.Native.Nat.{ℕ, ◌+◌, ◌-◌, ◌≤◌, zero-le}
 use native.Mathlib.Nat.{le_antisymm}
 use native.Mathlib.Numerals.{add-one, add-one-le}
 use native.Mathlib.Omega.{arith}
@@ -12,7 +12,6 @@ use Rattle.places.specs.Places.{zeros_at}
 use Rattle.places.proofs.Ends.{nothing_there, zeros_within}
 use Rattle.places.proofs.are_zero.Statement.{statement}
 use Rattle.places.proofs.are_zero.Tie as tie
-use Rattle.places.proofs.are_zero.Reads as reads
 
 abbrev invariant-loop-i : tie.invariant-loop-i
 invariant-loop-i s at n a len end zero₀ i₀ zero i = (i ≤ end) × (zero ≡ zeros_at i at s)

@@ -1,6 +1,6 @@
 -- Each rule that is broken answers no; past all of them the last decides.
 use borrow.Author.Rules.{rules}
-use borrow.Author.Tests.{le-leb, lt-leb, not-true, not-false}
+use borrow.Author.Tests.{le-leb, lt-leb}
 use Rattle.outline.specs.Setpoints.{setpoints_fit}
 use Rattle.setpoints.proofs.setpoints_fit.Statement.{statement}
 use Rattle.setpoints.proofs.setpoints_fit.Tie as tie

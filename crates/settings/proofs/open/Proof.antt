@@ -1,6 +1,5 @@
 -- The settings made are those of the definition, where the check passed.
 use borrow.Author.Rules.{rules}
-use borrow.Author.Tests.{not-true, not-false}
 use mathlib.Core.Path.{sym, ◌∙◌}
 use Rattle.outline.specs.Settings.{open_of}
 use Rattle.settings.proofs.open.Statement.{statement}

@@ -1,14 +1,13 @@
 -- The state is the fold over the counts passed; in the loop the parts of steps 1 to 5 are told call by call, and where the ways of step 6
 -- meet, each is a case of its definition. The measure is what is left of the counts.
 use mathlib.Core.Path.{◌≡◌, refl, sym, ap, ◌∙◌}
-use mathlib.Core.Logic.{⊎_elim}
 use mathlib.Core.Bool.{Bool, false}
 use mathlib.Core.List.{List, foldl, foldl-append}
 use Prim.Native.Nat.{ℕ, ◌+◌, ◌-◌, ◌<◌, ◌≤◌}
 use native.Mathlib.Numerals.{add-one}
 use native.Mathlib.Omega.{arith}
 use borrow.Author.Rules.{rules}
-use borrow.Author.Tests.{lt-leb, le-leb, not-true, not-false}
+use borrow.Author.Tests.{lt-leb, le-leb}
 use lib.IntN.{ℤ, pos}
 use lib.ListN.{length, take, get_or}
 use lib.Seq.{take_all, take-suc}
@@ -161,28 +160,30 @@ stepped j =
     let same : idle_of (at t).loop-i.st.sequence.stage ≡ false → (start t).args.st.setpoints ≡ (at t).loop-i.st.setpoints
     = λ runs. sym ((at t).loop-i.invariant.2 runs) in
     let x = t.weigh-x.result in
-    elim j.if-not-idle.branch
-    [ then-not-idle+then-is_idle f ↦
-    let v = (be (got {w = w64} f.compared-v.result f.compared-v.type_inv) f.compared-v.ensures).read in
-    let gross : SFits w32 x.gross = search (sfits_of, f.struct_told-then-not-idle-1.given.1.1.1.1.1.0) in
-    let advanced = simp (to_z-of_z gross) at f.advance-a.ensures in
-    let runs = sym p.idles ∙ f.if-not-idle.true in
-    let back = sym f.is_idle.ensures ∙ f.if-is_idle.true in
-    f.st-is ∙ elim f.if-a.branch
-    [ then-a k ↦ ap (λ (r : State). with_waiting (with_setpoints r f.latest-st.result) f.none_waiting-st.result) k.st-is
-    ∙ step-finished _ _ _ _ _ _ _ (same runs) f.is_fit-fit.ensures v advanced _ _ runs back
-    (f.latest-st.ensures ∙ (λ h. latest_of (same runs h) (k.st-is h).waiting)) f.none_waiting-st.ensures
-    _ _ k.if-a.true k.booked_sequence-st.ensures k.booked_totals-st.ensures
-    | else-a k ↦ ap (λ (r : State). with_waiting (with_setpoints r f.latest-st.result) f.none_waiting-st.result) k.st-is
-    ∙ step_back _ _ _ _ _ _ _ (same runs) f.is_fit-fit.ensures v advanced _ _ runs back
-    (f.latest-st.ensures ∙ (λ h. latest_of (same runs h) (k.st-is h).waiting)) f.none_waiting-st.ensures k.if-a.false ]
-    | then-not-idle+else-is_idle o ↦
-    let v = (be (got {w = w64} o.compared-v.result o.compared-v.type_inv) o.compared-v.ensures).read in
-    let gross : SFits w32 x.gross = search (sfits_of, o.struct_told-then-not-idle-1.given.1.1.1.1.1.0) in
-    let advanced = simp (to_z-of_z gross) at o.advance-a.ensures in
-    o.st-is ∙ step-on _ _ _ _ _ _ _ (same (sym p.idles ∙ o.if-not-idle.true)) o.is_fit-fit.ensures v advanced
-    (sym o.is_idle.ensures ∙ o.if-is_idle.false)
-    | else-not-idle n ↦ n.st-is ∙ step_idle _ _ _ (sym p.idles ∙ n.if-not-idle.false) ]
+    elim j.if-not-idle.branch [
+      | then-not-idle+then-is_idle f ↦
+          let v = (be (got {w = w64} f.compared-v.result f.compared-v.type_inv) f.compared-v.ensures).read in
+          let gross : SFits w32 x.gross = search (sfits_of, f.struct_told-then-not-idle-1.given.1.1.1.1.1.0) in
+          let advanced = simp (to_z-of_z gross) at f.advance-a.ensures in
+          let runs = sym p.idles ∙ f.if-not-idle.true in
+          let back = sym f.is_idle.ensures ∙ f.if-is_idle.true in
+          f.st-is ∙ elim f.if-a.branch [
+            | then-a k ↦ ap (λ (r : State). with_waiting (with_setpoints r f.latest-st.result) f.none_waiting-st.result) k.st-is
+                ∙ step-finished _ _ _ _ _ _ _ (same runs) f.is_fit-fit.ensures v advanced _ _ runs back
+                (f.latest-st.ensures ∙ (λ h. latest_of (same runs h) (k.st-is h).waiting)) f.none_waiting-st.ensures
+                _ _ k.if-a.true k.booked_sequence-st.ensures k.booked_totals-st.ensures
+            | else-a k ↦ ap (λ (r : State). with_waiting (with_setpoints r f.latest-st.result) f.none_waiting-st.result) k.st-is
+                ∙ step_back _ _ _ _ _ _ _ (same runs) f.is_fit-fit.ensures v advanced _ _ runs back
+                (f.latest-st.ensures ∙ (λ h. latest_of (same runs h) (k.st-is h).waiting)) f.none_waiting-st.ensures k.if-a.false
+          ]
+      | then-not-idle+else-is_idle o ↦
+          let v = (be (got {w = w64} o.compared-v.result o.compared-v.type_inv) o.compared-v.ensures).read in
+          let gross : SFits w32 x.gross = search (sfits_of, o.struct_told-then-not-idle-1.given.1.1.1.1.1.0) in
+          let advanced = simp (to_z-of_z gross) at o.advance-a.ensures in
+          o.st-is ∙ step-on _ _ _ _ _ _ _ (same (sym p.idles ∙ o.if-not-idle.true)) o.is_fit-fit.ensures v advanced
+          (sym o.is_idle.ensures ∙ o.if-is_idle.false)
+      | else-not-idle n ↦ n.st-is ∙ step_idle _ _ _ (sym p.idles ∙ n.if-not-idle.false)
+    ]
 
 counted : (j : tie.Joined-not-idle invariant-loop-i decreases-loop-i) →
     let t = j.before in

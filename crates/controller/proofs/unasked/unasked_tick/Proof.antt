@@ -1,8 +1,6 @@
 -- The parts of steps 1 to 5 are told call by call; where the ways of step 6 meet, each is a case of its definition.
 use borrow.Author.Rules.{rules}
-use borrow.Author.Tests.{not-true, not-false}
 use mathlib.Core.Path.{◌≡◌, refl, sym, ap, ◌∙◌}
-use mathlib.Core.Logic.{⊎_elim}
 use mir.Syntax.{w32, w64}
 use mir.Val.{SFits}
 use mir.Facts.{to_z-of_z}
@@ -100,27 +98,29 @@ stepped : (j : tie.Joined-not-idle) →
 stepped j =
     let p = parts j.before in
     let x = j.weigh-x.result in
-    elim j.if-not-idle.branch
-    [ then-not-idle+then-is_idle f ↦
-    let v = (be (got {w = w64} f.compared-v.result f.compared-v.type_inv) f.compared-v.ensures).read in
-    let gross : SFits w32 x.gross = search (sfits_of, f.struct_told-then-not-idle-1.given) in
-    let advanced = simp (to_z-of_z gross) at f.advance-a.ensures in
-    let runs = sym p.idles ∙ f.if-not-idle.true in
-    let back = sym f.is_idle.ensures ∙ f.if-is_idle.true in
-    f.st-is ∙ elim f.if-a.branch
-    [ then-a k ↦ ap (λ (r : State). with_waiting (with_setpoints r f.latest-st.result) f.none_waiting-st.result) k.st-is
-    ∙ step-finished _ _ _ _ _ _ _ refl f.is_fit-fit.ensures v advanced _ _ runs back
-    (f.latest-st.ensures ∙ ap (λ (r : State). latest_of r.setpoints r.waiting) k.st-is) f.none_waiting-st.ensures
-    _ _ k.if-a.true k.booked_sequence-st.ensures k.booked_totals-st.ensures
-    | else-a k ↦ ap (λ (r : State). with_waiting (with_setpoints r f.latest-st.result) f.none_waiting-st.result) k.st-is
-    ∙ step_back _ _ _ _ _ _ _ refl f.is_fit-fit.ensures v advanced _ _ runs back
-    (f.latest-st.ensures ∙ ap (λ (r : State). latest_of r.setpoints r.waiting) k.st-is) f.none_waiting-st.ensures k.if-a.false ]
-    | then-not-idle+else-is_idle o ↦
-    let v = (be (got {w = w64} o.compared-v.result o.compared-v.type_inv) o.compared-v.ensures).read in
-    let gross : SFits w32 x.gross = search (sfits_of, o.struct_told-then-not-idle-1.given) in
-    let advanced = simp (to_z-of_z gross) at o.advance-a.ensures in
-    o.st-is ∙ step-on _ _ _ _ _ _ _ refl o.is_fit-fit.ensures v advanced (sym o.is_idle.ensures ∙ o.if-is_idle.false)
-    | else-not-idle n ↦ n.st-is ∙ step_idle _ _ _ (sym p.idles ∙ n.if-not-idle.false) ]
+    elim j.if-not-idle.branch [
+      | then-not-idle+then-is_idle f ↦
+          let v = (be (got {w = w64} f.compared-v.result f.compared-v.type_inv) f.compared-v.ensures).read in
+          let gross : SFits w32 x.gross = search (sfits_of, f.struct_told-then-not-idle-1.given) in
+          let advanced = simp (to_z-of_z gross) at f.advance-a.ensures in
+          let runs = sym p.idles ∙ f.if-not-idle.true in
+          let back = sym f.is_idle.ensures ∙ f.if-is_idle.true in
+          f.st-is ∙ elim f.if-a.branch [
+            | then-a k ↦ ap (λ (r : State). with_waiting (with_setpoints r f.latest-st.result) f.none_waiting-st.result) k.st-is
+                ∙ step-finished _ _ _ _ _ _ _ refl f.is_fit-fit.ensures v advanced _ _ runs back
+                (f.latest-st.ensures ∙ ap (λ (r : State). latest_of r.setpoints r.waiting) k.st-is) f.none_waiting-st.ensures
+                _ _ k.if-a.true k.booked_sequence-st.ensures k.booked_totals-st.ensures
+            | else-a k ↦ ap (λ (r : State). with_waiting (with_setpoints r f.latest-st.result) f.none_waiting-st.result) k.st-is
+                ∙ step_back _ _ _ _ _ _ _ refl f.is_fit-fit.ensures v advanced _ _ runs back
+                (f.latest-st.ensures ∙ ap (λ (r : State). latest_of r.setpoints r.waiting) k.st-is) f.none_waiting-st.ensures k.if-a.false
+          ]
+      | then-not-idle+else-is_idle o ↦
+          let v = (be (got {w = w64} o.compared-v.result o.compared-v.type_inv) o.compared-v.ensures).read in
+          let gross : SFits w32 x.gross = search (sfits_of, o.struct_told-then-not-idle-1.given) in
+          let advanced = simp (to_z-of_z gross) at o.advance-a.ensures in
+          o.st-is ∙ step-on _ _ _ _ _ _ _ refl o.is_fit-fit.ensures v advanced (sym o.is_idle.ensures ∙ o.if-is_idle.false)
+      | else-not-idle n ↦ n.st-is ∙ step_idle _ _ _ (sym p.idles ∙ n.if-not-idle.false)
+    ]
 
 returns : tie.Need-returns
 returns c =

@@ -1,6 +1,5 @@
 -- By the length, then by the bytes behind the numbers.
 use mathlib.Core.Path.{◌≡◌, sym, ◌∙◌}
-use borrow.Author.Tests.{not-true, not-false}
 use borrow.Author.Rules.{rules}
 use Rattle.places.specs.Places.{same_bytes}
 use Rattle.images.specs.GivenImage.{given_image, given_at, given_in}

@@ -8,7 +8,7 @@ use lib.IntN.{ℤ, pos, nat_abs, ◌+ℤ◌}
 use mir.Syntax.{w32, w64}
 use mir.Val.{SFits}
 use mir.Facts.{to_z-of_z}
-use borrow.Author.Tests.{leb-true, not-true, not-false}
+use borrow.Author.Tests.{leb-true}
 use borrow.Author.Rules.{rules}
 use Rattle.whole.specs.Ints.{ints, linear, ints2}
 use Rattle.whole.specs.Bits.{eqb_is}

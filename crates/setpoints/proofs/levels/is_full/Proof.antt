@@ -1,7 +1,6 @@
 -- Off in an unfit tick and in mode 1; else full against gross, where both fit 64 bits.
 use native.Mathlib.Omega.{arith}
 use borrow.Author.Rules.{rules}
-use borrow.Author.Tests.{not-true, not-false}
 use lib.Signed.{lt_z}
 use mir.Syntax.{w32, w64}
 use mir.Val.{SFits}

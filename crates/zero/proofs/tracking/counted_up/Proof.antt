@@ -1,6 +1,6 @@
 -- Each way through the tests is one case of the definition. What tracked becomes fits an i64, and an i32 once it is within the allowance.
 use borrow.Author.Rules.{rules}
-use borrow.Author.Tests.{le-leb, lt-leb, not-true, not-false}
+use borrow.Author.Tests.{le-leb, lt-leb}
 use mathlib.Core.Path.{◌≡◌, sym, ap, ◌∙◌}
 use mathlib.Core.Bool.{true, false}
 use Prim.Native.Nat.{suc, ◌+◌}

@@ -1,6 +1,5 @@
 -- Each test but the last, where it fails, makes the whole false.
 use borrow.Author.Rules.{rules}
-use borrow.Author.Tests.{not-true, not-false}
 use mathlib.Core.Path.{sym, ◌∙◌}
 use mir.Syntax.{w64}
 use mir.Val.{SFits}

@@ -1,6 +1,6 @@
 -- Each way through the tests is one case of the definition. A calm tick's fine weight is within the width, which a u8 holds.
 use borrow.Author.Rules.{rules}
-use borrow.Author.Tests.{leb-true, not-true, not-false}
+use borrow.Author.Tests.{leb-true}
 use mathlib.Core.Path.{◌≡◌, sym, ◌∙◌}
 use mathlib.Core.Bool.{Bool, true, false, not, ◌&&◌}
 use Prim.Native.Nat.{◌≤◌}
