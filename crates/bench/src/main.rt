@@ -9,7 +9,7 @@ use crate::digest::Seen;
 use crate::input::Head;
 use crate::modes::{Run, asked_ticks, block_ticks, line_ticks, unasked_ticks};
 use controller::opening::{open, open_state};
-use libc::{STDIN_FILENO, STDOUT_FILENO};
+use std::io::{self, Read};
 use types::requests::Request;
 use types::settings::{Opening, Settings};
 use types::stages::Setpoints;
@@ -18,13 +18,14 @@ mod digest;
 mod input;
 mod modes;
 
+// The bytes of the input that are read.
+const SPACE_BYTES: u64 = 65_536;
+
 // The blocks of a round.
 const BLOCKS: u64 = 3;
 
-fn print(name: &[u8], n: u64) {
-    io::write_all(STDOUT_FILENO, name);
-    io::print_decimal(STDOUT_FILENO, n);
-    io::write_all(STDOUT_FILENO, b"\n");
+fn print(rt: &impl Print, name: &str, n: u64) -> io::Result<()> {
+    println!(rt; "{name}{n}")
 }
 
 fn unseen() -> Seen {
@@ -84,7 +85,13 @@ fn turned(
     }
 }
 
-fn run_rounds(s: Settings, head: Head, bytes: &[u8], counts: &[i32]) {
+fn run_rounds(
+    rt: &impl Print,
+    s: Settings,
+    head: Head,
+    bytes: &[u8],
+    counts: &[i32],
+) -> io::Result<()> {
     let mut reply = [0u8; 64];
     let mut run = started(s, head, bytes, &mut reply);
     let turns = (head.rounds as u64) * BLOCKS;
@@ -102,24 +109,24 @@ fn run_rounds(s: Settings, head: Head, bytes: &[u8], counts: &[i32]) {
         );
         turn += 1;
     }
-    print(b"ticks=", run.ticks);
-    print(b"digest=", digest::of_state(run.state));
-    print(b"outputs=", digest::of_outputs(run.seen, &reply));
+    print(rt, "ticks=", run.ticks)?;
+    print(rt, "digest=", digest::of_state(run.state))?;
+    print(rt, "outputs=", digest::of_outputs(run.seen, &reply))
 }
 
-fn run_all(s: Settings, bytes: &[u8]) {
+fn run_all(rt: &impl Print, s: Settings, bytes: &[u8]) -> io::Result<()> {
     let mut counts = [0i32; input::COUNTS];
     input::fill(bytes, &mut counts);
     let given = input::first_counts(&counts, input::counts_in(bytes));
-    run_rounds(s, input::head_of(bytes), bytes, given);
+    run_rounds(rt, s, input::head_of(bytes), bytes, given)
 }
 
-fn main() {
-    let mut space = io::large_buffer();
-    let got = io::read_full(STDIN_FILENO, &mut space);
-    let bytes = &space[..got];
+fn main(rt: HostRuntime) -> io::Result<()> {
+    let mut space = Vec::new(rt.alloc());
+    rt.reader().take(SPACE_BYTES).read_to_end(&mut space)?;
+    let bytes = space.as_slice();
     match open(input::given(bytes)) {
-        Opening::Accepted(s) => run_all(s, bytes),
-        Opening::Refused => print(b"refused=", 10),
+        Opening::Accepted(s) => run_all(&rt, s, bytes),
+        Opening::Refused => print(&rt, "refused=", 10),
     }
 }

@@ -11,11 +11,12 @@ use crate::given::GivenLine;
 use crate::input::{first_line, next_line};
 use crate::printout::{put_opened, put_refused, put_tick, written};
 use controller::opening::{open, open_state};
-use libc::{STDERR_FILENO, STDOUT_FILENO};
 use logs::numerals::number_at;
 use logs::pieces::part;
 use logs::reader::request_in;
 use logs::ticks::request_tick;
+use std::env::{Env, FillError};
+use std::io::{self, Read};
 use types::log::{Line, LogNumber};
 use types::settings::{Given, Opening, Settings};
 
@@ -24,54 +25,74 @@ mod input;
 mod printout;
 mod text;
 
+// The bytes that are held at a time, of the log and of the output.
+const SPACE_BYTES: usize = 65_536;
+
 // The longest reply buffer.
 const REPLY_LIMIT: usize = 64;
 
 // A line is there and could not be read, or the log has ended.
-fn put_end(out: &mut [u8], at: usize, line: Line) -> usize {
+fn put_end(rt: &impl Print, out: &mut [u8], at: usize, line: Line) -> io::Result<usize> {
     if line.here {
-        return put_refused(out, at, line.number);
+        return put_refused(rt, out, at, line.number);
     }
-    at
+    Ok(at)
 }
 
 // The ticks, from the line behind `first` on. A proved loop has to end, and nothing says that the input does: so the ticks are counted,
-// from a number that no run uses up.
-fn run_ticks(s: Settings, first: Line, space: &mut [u8], reply: &mut [u8]) {
-    let mut out = io::large_buffer();
+// up to a number that no run reaches.
+fn run_ticks(
+    rt: &impl Print,
+    input: &mut impl Read,
+    s: Settings,
+    first: Line,
+    space: &mut [u8],
+    reply: &mut [u8],
+) -> io::Result<()> {
+    let mut out = [0u8; SPACE_BYTES];
     let mut at = put_opened(&mut out);
     let mut state = open_state(s);
-    let mut line = next_line(space, first);
-    let mut turns = u64::MAX;
-    while turns > 0 && line.said.read {
+    let mut line = next_line(input, space, first)?;
+    for _ in 0..u64::MAX {
+        if !line.said.read {
+            break;
+        }
         let request = request_in(space, line);
         let t = request_tick(s, state, line.said.count, line.said.contact, request, reply);
-        at = put_tick(&mut out, at, t, reply);
+        at = put_tick(rt, &mut out, at, t, reply)?;
         state = t.state;
-        line = next_line(space, line);
-        turns -= 1;
+        line = next_line(input, space, line)?;
     }
-    let end = put_end(&mut out, at, line);
-    written(&out, end);
+    let end = put_end(rt, &mut out, at, line)?;
+    written(rt, &out, end)?;
+    Ok(())
 }
 
 // Tells the opening's answer; under accepted settings the ticks run.
-fn opened(g: Given, first: Line, space: &mut [u8], reply: &mut [u8]) {
+fn opened(
+    rt: &impl Print,
+    input: &mut impl Read,
+    g: Given,
+    first: Line,
+    space: &mut [u8],
+    reply: &mut [u8],
+) -> io::Result<()> {
     match open(g) {
-        Opening::Accepted(s) => run_ticks(s, first, space, reply),
-        Opening::Refused => {
-            io::write_all(STDOUT_FILENO, b"answer=10\n");
-        }
+        Opening::Accepted(s) => run_ticks(rt, input, s, first, space, reply),
+        Opening::Refused => rt.write_all(b"answer=10\n"),
     }
 }
 
-fn read_settings(space: &mut [u8], reply: &mut [u8]) {
-    let first = first_line(space);
+fn read_settings(
+    rt: &impl Print,
+    input: &mut impl Read,
+    space: &mut [u8],
+    reply: &mut [u8],
+) -> io::Result<()> {
+    let first = first_line(input, space)?;
     match given::given_line(part(space, first.from, first.end)) {
-        GivenLine::Read(g) => opened(g, first, space, reply),
-        GivenLine::Unreadable => {
-            io::write_all(STDOUT_FILENO, b"refused=1\n");
-        }
+        GivenLine::Read(g) => opened(rt, input, g, first, space, reply),
+        GivenLine::Unreadable => rt.write_all(b"refused=1\n"),
     }
 }
 
@@ -86,11 +107,12 @@ fn within(room: usize) -> usize
     }
 }
 
-fn read_log(room: usize) {
-    let mut space = io::large_buffer();
+fn read_log(rt: &(impl Input + Print), room: usize) -> io::Result<()> {
+    let mut input = rt.reader();
+    let mut space = [0u8; SPACE_BYTES];
     let mut reply = [0u8; REPLY_LIMIT];
     let lent = within(room);
-    read_settings(&mut space, &mut reply[..lent]);
+    read_settings(rt, &mut input, &mut space, &mut reply[..lent])
 }
 
 // What the first argument reads as: the length of the reply buffer.
@@ -121,23 +143,18 @@ fn room_of(word: &[u8]) -> Room {
     }
 }
 
-fn asked() -> Room {
-    if os::arg_count() < 2 {
-        return Room::Bytes(REPLY_LIMIT);
-    }
+fn asked(env: &impl Env) -> Room {
     let mut word = [0u8; 16];
-    let n = os::arg(1, &mut word);
-    room_of(&word[..n])
+    match env.arg(1, &mut word) {
+        Ok(n) => room_of(&word[..n]),
+        Err(FillError::NotPresent) => Room::Bytes(REPLY_LIMIT),
+        Err(FillError::TooLong) => Room::Wrong,
+    }
 }
 
-fn main() {
-    match asked() {
-        Room::Bytes(n) => read_log(n),
-        Room::Wrong => {
-            io::write_all(
-                STDERR_FILENO,
-                b"replay: the length of the reply buffer is 0 to 64\n",
-            );
-        }
+fn main(rt: HostRuntime) -> io::Result<()> {
+    match asked(&rt) {
+        Room::Bytes(n) => read_log(&rt, n),
+        Room::Wrong => rt.eprintln("replay: the length of the reply buffer is 0 to 64"),
     }
 }

@@ -1,13 +1,14 @@
 // What is printed: the opening's answer, a line for each tick with its outputs and the state after it, and the line that could not be
-// read. No text is promised, only that it ends and never fails, whatever it is given; it is held to stored outputs and to the peer's.
+// read. No text is promised, only that it ends, whatever it is given, and fails only where a write does; it is held to stored outputs and to
+// the peer's.
 //
 // A key and its value are a call each: a key has a known length, and is then copied as a few words.
 use crate::text::{
     DASH, put, put_bits, put_byte, put_digits, put_flag, put_hex, put_number, put_signed,
 };
-use libc::STDOUT_FILENO;
 use logs::pieces::part;
 use numbers::{error_number, stage_number, told_number};
+use std::io;
 use types::analog::Analog;
 use types::daybook::Book;
 use types::lines::LineTick;
@@ -21,22 +22,22 @@ const LF: u8 = 10;
 const COMMA: u8 = 44;
 
 // Writes the output out, and tells where the next begins.
-pub(crate) fn written(out: &[u8], at: usize) -> usize {
-    io::write_all(STDOUT_FILENO, part(out, 0, at));
-    0
+pub(crate) fn written(rt: &impl Print, out: &[u8], at: usize) -> io::Result<usize> {
+    rt.write_all(part(out, 0, at))?;
+    Ok(0)
 }
 
 // The output is written when fewer bytes than a tick's line may need are left of its buffer.
 const LINE_ROOM: usize = 1_024;
 
-fn flushed(out: &[u8], at: usize) -> usize {
+fn flushed(rt: &impl Print, out: &[u8], at: usize) -> io::Result<usize> {
     if out.len() < LINE_ROOM {
-        return 0;
+        return Ok(0);
     }
     if at <= out.len() - LINE_ROOM {
-        return at;
+        return Ok(at);
     }
-    written(out, at)
+    written(rt, out, at)
 }
 
 // The settings are accepted.
@@ -45,11 +46,16 @@ pub(crate) fn put_opened(out: &mut [u8]) -> usize {
 }
 
 // The line with this number can't be read.
-pub(crate) fn put_refused(out: &mut [u8], at: usize, number: u64) -> usize {
-    let at = flushed(out, at);
+pub(crate) fn put_refused(
+    rt: &impl Print,
+    out: &mut [u8],
+    at: usize,
+    number: u64,
+) -> io::Result<usize> {
+    let at = flushed(rt, out, at)?;
     let at = put(out, at, b"refused=");
     let at = put_number(out, at, number);
-    put_byte(out, at, LF)
+    Ok(put_byte(out, at, LF))
 }
 
 fn put_weights(out: &mut [u8], at: usize, x: Reading) -> usize {
@@ -241,13 +247,19 @@ fn put_state(out: &mut [u8], at: usize, st: State) -> usize {
 }
 
 // The output so far is written out where a line may not find room behind it. The reply's bytes are the first of its buffer.
-pub(crate) fn put_tick(out: &mut [u8], at: usize, t: LineTick, reply: &[u8]) -> usize {
+pub(crate) fn put_tick(
+    rt: &impl Print,
+    out: &mut [u8],
+    at: usize,
+    t: LineTick,
+    reply: &[u8],
+) -> io::Result<usize> {
     let told = t.told;
-    let at = flushed(out, at);
+    let at = flushed(rt, out, at)?;
     let at = put(out, at, b"answer=");
     let at = put_number(out, at, told_number(told) as u64);
     let at = put(out, at, b" reply=");
     let at = put_hex(out, at, part(reply, 0, t.length));
     let at = put_outputs(out, at, t.answer);
-    put_state(out, at, t.state)
+    Ok(put_state(out, at, t.state))
 }

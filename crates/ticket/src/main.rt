@@ -5,44 +5,51 @@
 
 use crate::input::{first_line, next_line};
 use controller::opening::{open, open_state};
-use libc::STDOUT_FILENO;
 use logs::pieces::part;
 use logs::reader::request_in;
 use logs::tickets::{settings_a, write_refused, write_ticket};
 use logs::ticks::request_tick;
+use std::io;
 use types::log::Line;
 use types::machine::{Answer, State};
 use types::settings::{Opening, Settings};
 
 mod input;
 
+// The bytes of the log that are held at a time.
+const SPACE_BYTES: usize = 65_536;
+
 // Room for the longest ticket.
 const TICKET_BYTES: usize = 256;
 
 // A ticket where the tick closed a day, else nothing.
-fn print_ticket(out: &mut [u8], answer: Answer, state: State) {
+fn print_ticket(rt: &impl Print, out: &mut [u8], answer: Answer, state: State) -> io::Result<()> {
     let closed = answer.closed;
     let n = write_ticket(out, closed, state.weighing, state.totals);
-    io::write_all(STDOUT_FILENO, part(out, 0, n));
+    rt.write_all(part(out, 0, n))
 }
 
 // A line is there and could not be read, or the log has ended.
-fn print_end(out: &mut [u8], line: Line) {
-    if line.here {
-        let n = write_refused(out, line.number);
-        io::write_all(STDOUT_FILENO, part(out, 0, n));
+fn print_end(rt: &impl Print, out: &mut [u8], line: Line) -> io::Result<()> {
+    if !line.here {
+        return Ok(());
     }
+    let n = write_refused(out, line.number);
+    rt.write_all(part(out, 0, n))
 }
 
-// A proved loop has to end, and nothing says that the input does: so the ticks are counted, from a number that no run uses up.
-fn read_log(s: Settings) {
-    let mut space = io::large_buffer();
+// A proved loop has to end, and nothing says that the input does: so the ticks are counted, up to a number that no run reaches.
+fn read_log(rt: &(impl Input + Print), s: Settings) -> io::Result<()> {
+    let mut input = rt.reader();
+    let mut space = [0u8; SPACE_BYTES];
     let mut reply = [0u8; 64];
     let mut out = [0u8; TICKET_BYTES];
     let mut state = open_state(s);
-    let mut line = first_line(&mut space);
-    let mut turns = u64::MAX;
-    while turns > 0 && line.said.read {
+    let mut line = first_line(&mut input, &mut space)?;
+    for _ in 0..u64::MAX {
+        if !line.said.read {
+            break;
+        }
         let request = request_in(&space, line);
         let t = request_tick(
             s,
@@ -52,17 +59,16 @@ fn read_log(s: Settings) {
             request,
             &mut reply,
         );
-        print_ticket(&mut out, t.answer, t.state);
+        print_ticket(rt, &mut out, t.answer, t.state)?;
         state = t.state;
-        line = next_line(&mut space, line);
-        turns -= 1;
+        line = next_line(&mut input, &mut space, line)?;
     }
-    print_end(&mut out, line);
+    print_end(rt, &mut out, line)
 }
 
-fn main() {
+fn main(rt: HostRuntime) -> io::Result<()> {
     match open(settings_a()) {
-        Opening::Accepted(s) => read_log(s),
-        Opening::Refused => {}
+        Opening::Accepted(s) => read_log(&rt, s),
+        Opening::Refused => Ok(()),
     }
 }
