@@ -1,6 +1,7 @@
-// The calls of board/pressgully.h. Between them nothing is kept: the state lies in the caller's 288 bytes, the settings in the caller's
-// 128. A call judges both images, bytes and ranges, and runs its ticks in the buffer of the state; a refused one changes no byte of any
-// buffer. An opening and a growth ask of the state's buffer its length alone; a growth judges the earlier image in its place.
+// The calls of board/pressgully.h, which board_c exports to C. Between them nothing is kept: the state lies in the caller's 288 bytes, the
+// settings in the caller's 128. A call judges both images, bytes and ranges, and runs its ticks in the buffer of the state; a refused one
+// changes no byte of any buffer. An opening and a growth ask of the state's buffer its length alone; a growth judges the earlier image in
+// its place.
 #![tactic(auto)]
 
 ghost use Rattle.std.specs.Prelude.{◌≡◌, cond, length};
@@ -94,8 +95,7 @@ fn length_refusal(n: usize) -> u8
 }
 
 // The opening: fills the state image. What its bytes were is not asked.
-#[unsafe(no_mangle)]
-pub extern "C" fn pressgully_open(settings: &[u8], state: &mut [u8]) -> u32
+pub fn pressgully_open(settings: &[u8], state: &mut [u8]) -> u32
     ensures told { result ≡ open_answer settings.now (length state.old) }
     ensures image { state.new ≡ open_image settings.now state.old }
 {
@@ -137,8 +137,7 @@ fn put_batched(earlier: &[u8], state: &mut [u8])
 }
 
 // Makes the present image of an earlier one. What the bytes of the state's buffer were is not asked.
-#[unsafe(no_mangle)]
-pub extern "C" fn pressgully_grow(settings: &[u8], earlier: &[u8], state: &mut [u8]) -> u32
+pub fn pressgully_grow(settings: &[u8], earlier: &[u8], state: &mut [u8]) -> u32
     ensures told { result ≡ grow_answer settings.now earlier.now (length state.old) }
     ensures image { state.new ≡ grow_image settings.now earlier.now state.old }
 {
@@ -214,8 +213,7 @@ fn run_tick(
 }
 
 // One tick, asked by a number.
-#[unsafe(no_mangle)]
-pub extern "C" fn pressgully_tick(
+pub fn pressgully_tick(
     settings: &[u8],
     state: &mut [u8],
     count: i32,
@@ -306,8 +304,7 @@ fn run_line(
 }
 
 // One tick with a receive buffer, whose line it obeys. The reply's length stands in the answer.
-#[unsafe(no_mangle)]
-pub extern "C" fn pressgully_line(
+pub fn pressgully_line(
     settings: &[u8],
     state: &mut [u8],
     count: i32,
@@ -365,13 +362,7 @@ fn run_block(s: Settings, counts: &[i32], contact: bool, state: &mut [u8]) -> u3
 }
 
 // A block of counts, one tick each, with one contact and no requests.
-#[unsafe(no_mangle)]
-pub extern "C" fn pressgully_block(
-    settings: &[u8],
-    state: &mut [u8],
-    counts: &[i32],
-    contact: bool,
-) -> u32
+pub fn pressgully_block(settings: &[u8], state: &mut [u8], counts: &[i32], contact: bool) -> u32
     ensures told { result ≡ block_answer settings.now state.old counts.now contact }
     ensures image { state.new ≡ block_image settings.now state.old counts.now contact }
 {
