@@ -29,11 +29,11 @@ module _ (c : tie.After-is_digit invariant-loop-i decreases-loop-i) where
   tested = c.is_digit.ensures ∙ ap is_digit c.byte_at.ensures
 
 module _ (c : tie.In-loop-i invariant-loop-i decreases-loop-i) where
-  digit : is_digit (get_or (S c.before) (L c.before).loop.i 0) ≡ true
+  digit : is_digit (get_or (S c.before) (L c.before).loop-i.i 0) ≡ true
   digit = sym (tested c.before) ∙ c.loop-i-test.true
 
-  within : (L c.before).loop.i < length (S c.before)
-  within = digit_within (S c.before) (L c.before).loop.i digit
+  within : (L c.before).loop-i.i < length (S c.before)
+  within = digit_within (S c.before) (L c.before).loop-i.i digit
 
 loop-i-init : tie.Need-loop-i-init invariant-loop-i decreases-loop-i
 loop-i-init c = omega arith
@@ -51,12 +51,12 @@ loop-i-smaller : tie.Need-loop-i-smaller invariant-loop-i decreases-loop-i
 loop-i-smaller c = omega (arith, within c)
 
 loop-i-preserved : tie.Need-loop-i-preserved invariant-loop-i decreases-loop-i
-loop-i-preserved c = omega (arith, (L c.before).loop.inv, run_goes (S c.before) (L c.before).loop.i (digit c))
+loop-i-preserved c = omega (arith, (L c.before).loop-i.invariant, run_goes (S c.before) (L c.before).loop-i.i (digit c))
 
 returns : tie.Need-returns invariant-loop-i decreases-loop-i
 returns c =
     let b = c.before in
-    omega (arith, (L b).loop.invariant, run_stops (S b) (L b).loop.i (sym (tested b) ∙ c.loop-i-test.false))
+    omega (arith, (L b).loop-i.invariant, run_stops (S b) (L b).loop-i.i (sym (tested b) ∙ c.loop-i-test.false))
 
 pub digit_run_spec : {M : Type 1} → statement M
 digit_run_spec =

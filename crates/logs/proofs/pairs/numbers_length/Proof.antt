@@ -22,11 +22,11 @@ decreases-loop-i lines amounts n₀ i₀ n i = lines - i
 loop-i-init : tie.Need-loop-i-init invariant-loop-i decreases-loop-i
 loop-i-init c = omega arith
 
-eight : (s : tie.Start invariant-loop-i decreases-loop-i) → length s.args.t1 ≡ 8
+eight : (s : tie.Start invariant-loop-i decreases-loop-i) → length s.args.amounts ≡ 8
 eight s = search rules
 
-held : (s : tie.Start invariant-loop-i decreases-loop-i) → length (take s.args.lines s.args.t1) ≡ s.args.lines
-held s = length-take-le s.args.lines s.args.t1 (rw (eight s) s.requires)
+held : (s : tie.Start invariant-loop-i decreases-loop-i) → length (take s.args.lines s.args.amounts) ≡ s.args.lines
+held s = length-take-le s.args.lines s.args.amounts (rw (eight s) s.requires)
 
 -- in a turn: the number, and the bound that all of them have
 module _ (c : tie.In-loop-i invariant-loop-i decreases-loop-i) where
@@ -36,14 +36,14 @@ module _ (c : tie.In-loop-i invariant-loop-i decreases-loop-i) where
   abbrev S : tie.Start invariant-loop-i decreases-loop-i
   S = L.before
 
-  short : length (number_lines (take S.args.lines S.args.t1)) ≤ 176
-  short = numbers_few S.args.t1 S.args.lines S.requires
+  short : length (number_lines (take S.args.lines S.args.amounts)) ≤ 176
+  short = numbers_few S.args.amounts S.args.lines S.requires
 
   abbrev A : Amount
-  A = get_or S.args.t1 L.loop-i.i (count_of 0)
+  A = get_or S.args.amounts L.loop-i.i (count_of 0)
 
-  next : length (number_lines (drop L.loop-i.i (take S.args.lines S.args.t1))) ≡ cond A.minus 1 0 + length (decimal_text A.size) + 1 + length (number_lines (drop (L.loop-i.i + 1) (take S.args.lines S.args.t1)))
-  next = omega (arith, numbers_more S.args.t1 L.loop-i.i S.args.lines (count_of 0) (rw (held S) c.loop-i-test.true) c.loop-i-test.true, number_length A)
+  next : length (number_lines (drop L.loop-i.i (take S.args.lines S.args.amounts))) ≡ cond A.minus 1 0 + length (decimal_text A.size) + 1 + length (number_lines (drop (L.loop-i.i + 1) (take S.args.lines S.args.amounts)))
+  next = omega (arith, numbers_more S.args.amounts L.loop-i.i S.args.lines (count_of 0) (rw (held S) c.loop-i-test.true) c.loop-i-test.true, number_length A)
 
 offset_bounds-amounts-i : tie.Need-offset_bounds-amounts-i invariant-loop-i decreases-loop-i
 offset_bounds-amounts-i c = omega (arith, c.loop-i-test.true, (S c).requires)
@@ -55,16 +55,16 @@ sign_length-requires : tie.Need-sign_length-requires invariant-loop-i decreases-
 sign_length-requires c κs = tt
 
 overflow_add-n : tie.Need-overflow_add-n invariant-loop-i decreases-loop-i
-overflow_add-n c = let t = c.before.before in omega (arith, (L t).loop.invariant, next t, short t, c.sign_length.ensures)
+overflow_add-n c = let t = c.before.before in omega (arith, (L t).loop-i.invariant, next t, short t, c.sign_length.ensures)
 
 digit_count-requires : tie.Need-digit_count-requires invariant-loop-i decreases-loop-i
 digit_count-requires c κs = tt
 
 overflow_add-n-in-loop-i : tie.Need-overflow_add-n-in-loop-i invariant-loop-i decreases-loop-i
-overflow_add-n-in-loop-i c = let t = c.before.before.before in omega (arith, (L t).loop.invariant, next t, short t, c.sign_length.ensures, c.digit_count.ensures)
+overflow_add-n-in-loop-i c = let t = c.before.before.before in omega (arith, (L t).loop-i.invariant, next t, short t, c.sign_length.ensures, c.digit_count.ensures)
 
 overflow_add-n-in-loop-i-2 : tie.Need-overflow_add-n-in-loop-i-2 invariant-loop-i decreases-loop-i
-overflow_add-n-in-loop-i-2 c = let t = c.before.before.before in omega (arith, (L t).loop.invariant, next t, short t, c.sign_length.ensures, c.digit_count.ensures)
+overflow_add-n-in-loop-i-2 c = let t = c.before.before.before in omega (arith, (L t).loop-i.invariant, next t, short t, c.sign_length.ensures, c.digit_count.ensures)
 
 overflow_add-i : tie.Need-overflow_add-i invariant-loop-i decreases-loop-i
 overflow_add-i c = let t = c.before.before.before in omega (arith, t.loop-i-test.true, (S t).requires)
@@ -73,13 +73,13 @@ loop-i-smaller : tie.Need-loop-i-smaller invariant-loop-i decreases-loop-i
 loop-i-smaller c = let t = c.before.before.before in omega (arith, t.loop-i-test.true)
 
 loop-i-preserved : tie.Need-loop-i-preserved invariant-loop-i decreases-loop-i
-loop-i-preserved c = let t = c.before.before.before in omega (arith, (L t).loop.invariant, next t, c.sign_length.ensures, c.digit_count.ensures)
+loop-i-preserved c = let t = c.before.before.before in omega (arith, (L t).loop-i.invariant, next t, c.sign_length.ensures, c.digit_count.ensures)
 
 returns : tie.Need-returns invariant-loop-i decreases-loop-i
 returns c =
     let l = c.loop-i in
     let s = c.before.before in
-    omega (arith, l.invariant, numbers_end (take s.args.lines s.args.t1) l.i (rw (held s) c.loop-i-test.false))
+    omega (arith, l.invariant, numbers_end (take s.args.lines s.args.amounts) l.i (rw (held s) c.loop-i-test.false))
 
 pub numbers_length_spec : {M : Type 1} → statement M
 numbers_length_spec =

@@ -36,10 +36,10 @@ module _ (d : tie.After-digits_at-next) where
   room : S.args.at + d.sign_length.result + length D ≤ length (set S.args.out.now S.args.at 45)
   room = rw length-set (omega (arith, length_digits d.digit_count.result A.size, d.digit_count.ensures, d.sign_length.ensures, number_length A, S.requires))
 
-  put : Put (set S.args.out.now S.args.at 45) (S.args.at + d.sign_length.result) (decimal_text A.size) d.digits_at-next.last.0 d.digits_at-next.result (length D)
+  put : Put (set S.args.out.now S.args.at 45) (S.args.at + d.sign_length.result) (decimal_text A.size) d.digits_at-next.new.buffer d.digits_at-next.result (length D)
   put = same digits (put_fits (set S.args.out.now S.args.at 45) (S.args.at + d.sign_length.result) D room d.digits_at-next.ensures.0 d.digits_at-next.ensures.1)
 
-  signed : Put S.args.out.now S.args.at (cond A.minus (45 ∷ []) [] ++ decimal_text A.size) d.digits_at-next.last.0 d.digits_at-next.result (cond A.minus 1 0 + length (decimal_text A.size))
+  signed : Put S.args.out.now S.args.at (cond A.minus (45 ∷ []) [] ++ decimal_text A.size) d.digits_at-next.new.buffer d.digits_at-next.result (cond A.minus 1 0 + length (decimal_text A.size))
   signed = record {
     stored = put.stored ∙ ap (λ (k : ℕ). sets (set S.args.out.now S.args.at 45) (S.args.at + k) (decimal_text A.size)) d.sign_length.ensures ∙ signed_sets A.minus S.args.out.now S.args.at (decimal_text A.size) (decimal_some A.size);
     behind = omega (arith, put.behind, put.long, d.sign_length.ensures);

@@ -25,7 +25,7 @@ invariant-loop-i out₀ keys amounts at₀ line₀ i₀ out at line i =
 abbrev decreases-loop-i : tie.decreases-loop-i
 decreases-loop-i out₀ keys amounts at₀ line₀ i₀ out at line i = length keys - i
 
-eight : (s : tie.Start invariant-loop-i decreases-loop-i) → length s.args.t3 ≡ 8
+eight : (s : tie.Start invariant-loop-i decreases-loop-i) → length s.args.amounts ≡ 8
 eight s = search rules
 
 -- in a turn: the byte of the keys, and what is left of the text
@@ -45,8 +45,8 @@ module _ (c : tie.After-shared_slice_known-in-loop-i-1 invariant-loop-i decrease
   within : I < length K
   within = c.loop-i-test.true
 
-  some : 1 ≤ length (filled (drop I K) (drop L.loop-i.line S.args.t3))
-  some = filled_some K I within (drop L.loop-i.line S.args.t3)
+  some : 1 ≤ length (filled (drop I K) (drop L.loop-i.line S.args.amounts))
+  some = filled_some K I within (drop L.loop-i.line S.args.amounts)
 
   room : L.loop-i.at < length L.loop-i.out
   room = omega (arith, some, S.requires.1, L.loop-i.invariant.0, L.loop-i.invariant.2)
@@ -62,17 +62,17 @@ module _ (c : tie.Else-byte-ne-EQUALS invariant-loop-i decreases-loop-i) where
   counted : marks (drop (I B) (K B)) ≡ suc (marks (drop (I B + 1) (K B)))
   counted = marks_mark (K B) (I B) (within B) mark
 
-  one : (L B).loop.line < 8
-  one = omega (arith, counted, (L B).loop.inv.1)
+  one : (L B).loop-i.line < 8
+  one = omega (arith, counted, (L B).loop-i.invariant.1)
 
-  rest : filled (drop (I B) (K B)) (drop (L B).loop.line (S B).args.t3) ≡ get_or (K B) (I B) 0 ∷ (number_line (get_or (S B).args.t3 (L B).loop.line (count_of 0)) ++ filled (drop (I B + 1) (K B)) (drop ((L B).loop.line + 1) (S B).args.t3))
-  rest = filled_mark (K B) (I B) (within B) (S B).args.t3 (L B).loop.line (count_of 0) mark (rw (eight (S B)) one)
+  rest : filled (drop (I B) (K B)) (drop (L B).loop-i.line (S B).args.amounts) ≡ get_or (K B) (I B) 0 ∷ (number_line (get_or (S B).args.amounts (L B).loop-i.line (count_of 0)) ++ filled (drop (I B + 1) (K B)) (drop ((L B).loop-i.line + 1) (S B).args.amounts))
+  rest = filled_mark (K B) (I B) (within B) (S B).args.amounts (L B).loop-i.line (count_of 0) mark (rw (eight (S B)) one)
 
 loop-i-init : tie.Need-loop-i-init invariant-loop-i decreases-loop-i
 loop-i-init c = (refl, omega (arith, c.requires.0), omega arith, refl)
 
 bounds-keys-i : tie.Need-bounds-keys-i invariant-loop-i decreases-loop-i
-bounds-keys-i c = within c
+bounds-keys-i c = c.loop-i-test.true
 
 bounds-out-at : tie.Need-bounds-out-at invariant-loop-i decreases-loop-i
 bounds-out-at c = room c
@@ -89,13 +89,13 @@ loop-i-smaller-then-byte-ne-EQUALS c = omega (arith, within c.before)
 loop-i-preserved-then-byte-ne-EQUALS : tie.Need-loop-i-preserved-then-byte-ne-EQUALS invariant-loop-i decreases-loop-i
 loop-i-preserved-then-byte-ne-EQUALS c =
     let b = c.before in
-    let l = (L b).loop in
+    let l = (L b).loop-i in
     let plain = ne_eqb _ _ c.if-byte-ne-EQUALS.true in
-    let e = filled_plain (K b) (I b) (within b) (drop l.line (S b).args.t3) plain in (
-      simp length-set l.inv.0,
-      rw (← marks_plain (K b) (I b) (within b) plain) l.inv.1,
-      omega (arith, ap length e, l.inv.2),
-      put_byte l.out l.at _ _ _ e ∙ l.inv.3,
+    let e = filled_plain (K b) (I b) (within b) (drop l.line (S b).args.amounts) plain in (
+      simp length-set l.invariant.0,
+      rw (← marks_plain (K b) (I b) (within b) plain) l.invariant.1,
+      omega (arith, ap length e, l.invariant.2),
+      put_byte l.out l.at _ _ _ e ∙ l.invariant.3,
     )
 
 offset_bounds-amounts-line : tie.Need-offset_bounds-amounts-line invariant-loop-i decreases-loop-i
@@ -107,8 +107,8 @@ bounds-amounts-line c = one c.before
 put_number-at-requires : tie.Need-put_number-at-requires invariant-loop-i decreases-loop-i
 put_number-at-requires c κs =
     let e = c.before.before in
-    let l = (L (B e)).loop in
-    rw length-set (omega (arith, simp length-append at (ap length (rest e)), l.inv.2, l.inv.0, (S (B e)).pre.1))
+    let l = (L (B e)).loop-i in
+    rw length-set (omega (arith, simp length-append at (ap length (rest e)), l.invariant.2, l.invariant.0, (S (B e)).requires.1))
 
 overflow_add-line : tie.Need-overflow_add-line invariant-loop-i decreases-loop-i
 overflow_add-line c = omega (arith, one c.before.before.before.before.before)
@@ -120,12 +120,12 @@ loop-i-preserved : tie.Need-loop-i-preserved invariant-loop-i decreases-loop-i
 loop-i-preserved c =
     let put = c.before.before in
     let e = put.before.before.before in
-    let l = (L (B e)).loop in
+    let l = (L (B e)).loop-i in
     let p = put.put_number-at.ensures in (
-      put_length p ∙ simp length-set l.inv.0,
-      omega (arith, counted e, l.inv.1),
-      omega (arith, simp length-append at (ap length (rest e)), l.inv.2, p.behind),
-      put_more _ _ p ∙ put_byte l.out l.at _ _ _ (rest e) ∙ l.inv.3,
+      put_length p ∙ simp length-set l.invariant.0,
+      omega (arith, counted e, l.invariant.1),
+      omega (arith, simp length-append at (ap length (rest e)), l.invariant.2, p.behind),
+      put_more _ _ p ∙ put_byte l.out l.at _ _ _ (rest e) ∙ l.invariant.3,
     )
 
 shape_of-out : tie.Need-shape_of-out invariant-loop-i decreases-loop-i
@@ -135,7 +135,7 @@ returns : tie.Need-returns invariant-loop-i decreases-loop-i
 returns c =
     let l = c.before in
     let k = l.args.keys.now in
-    let s = drop l.loop-i.line l.args.t3 in
+    let s = drop l.loop-i.line l.args.amounts in
     record {
       stored = sym (put_end l.loop-i.out k s l.loop-i.at l.loop-i.i c.loop-i-test.false) ∙ l.loop-i.invariant.3;
       behind = omega (arith, l.loop-i.invariant.2, filled_end k s l.loop-i.i c.loop-i-test.false);

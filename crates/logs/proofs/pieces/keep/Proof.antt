@@ -31,7 +31,7 @@ module _ (c : tie.In-loop-i invariant-loop-i decreases-loop-i) where
   L = c.before
 
   abbrev A : tie.Start invariant-loop-i decreases-loop-i
-  A = L.before.before.before.before
+  A = L.before.before.before
 
   within : A.args.from + L.loop-i.i < length A.args.space.now
   within = omega (arith, c.loop-i-test.true, L.loop-i.invariant.2)
@@ -54,13 +54,13 @@ loop-i-smaller c = omega (arith, c.loop-i-test.true)
 loop-i-preserved : tie.Need-loop-i-preserved invariant-loop-i decreases-loop-i
 loop-i-preserved c =
     let t = c.before in
-    let l = (L t).loop in
+    let l = (L t).loop-i in
     let a = (A t).args in (
       omega (arith, t.loop-i-test.true),
-      l.inv.1,
-      l.inv.2,
-      simp length-set l.inv.3,
-      rw (l.inv.4, read a.space.now a.from l.i (within t)) (move a.space.now a.from l.i (within t)),
+      l.invariant.1,
+      l.invariant.2,
+      simp length-set l.invariant.3,
+      rw (l.invariant.4, read a.space.now a.from l.i (within t)) (move a.space.now a.from l.i (within t)),
     )
 
 shape_of-space : tie.Need-shape_of-space invariant-loop-i decreases-loop-i

@@ -5,9 +5,6 @@ use Rattle.logs.proofs.TextLaws.{refused_line}
 use Rattle.logs.proofs.tickets.write_refused.Statement.{statement}
 use Rattle.logs.proofs.tickets.write_refused.Tie as tie
 
-slice-aggregate-write-text : tie.Need-slice-aggregate-write-text
-slice-aggregate-write-text c = search rules
-
 write_text-requires : tie.Need-write_text-requires
 unfolding marks
 write_text-requires c κs = search rules
@@ -22,4 +19,4 @@ returns c =
 
 pub write_refused_spec : {M : Type 1} → statement M
 write_refused_spec =
-    tie.close (tie.spec slice-aggregate-write-text write_text-requires shape_of-out returns)
+    tie.close (tie.spec write_text-requires shape_of-out returns)

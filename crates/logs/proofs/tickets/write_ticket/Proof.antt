@@ -14,9 +14,6 @@ enum_told-1 c = search rules
 returns-in_default : tie.Need-returns-in_default
 returns-in_default c = simp (c.in_default.is, ticket_none) (nothing _)
 
-slice-aggregate-write-text : tie.Need-slice-aggregate-write-text
-slice-aggregate-write-text c = search rules
-
 amounts_of-requires : tie.Need-amounts_of-requires
 amounts_of-requires c κs = search rules
 
@@ -41,7 +38,6 @@ write_ticket_spec =
     enum_known-closed
     enum_told-1
     returns-in_default
-    slice-aggregate-write-text
     amounts_of-requires
     write_text-requires
     shape_of-out

@@ -16,9 +16,9 @@ use Rattle.logs.proofs.ticks.request_tick.Tie as tie
 few : (c : tie.After-receive-1) → length c.part-command.result.now ≤ request_limit
 few c = cut c.args.request.now _ c.part-command.ensures
 
-held : (c : tie.After-put_received-n) → take c.put_received-n.result c.put_received-n.new.0 ≡ received_of c.args.request.now
+held : (c : tie.After-put_received-n) → take c.put_received-n.result c.put_received-n.new.receive ≡ received_of c.args.request.now
 held c =
-    ap (λ (n : ℕ). take n c.put_received-n.new.0) c.put_received-n.ensures.0
+    ap (λ (n : ℕ). take n c.put_received-n.new.receive) c.put_received-n.ensures.0
     ∙ c.put_received-n.ensures.1
     ∙ ap with_cr_lf c.part-command.ensures
 
