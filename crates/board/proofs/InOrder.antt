@@ -25,7 +25,8 @@ use Rattle.outline.specs.Stages.{idle_of}
 use Rattle.outline.specs.Parts.{with_weighing, pick_state}
 use Rattle.outline.specs.Requests.{idle_now, grant_of, granted_of, ruling_of}
 use Rattle.outline.specs.Tick.{entered_of, weights_of, stepped_of, next_of, outputs_of, tick_of, unasked_of}
-use Rattle.outline.specs.Steps.{answered_of, left_of, Asked, asked_next, asked_tick}
+use Rattle.outline.specs.Steps.{answered_of, left_of, Asked}
+use Rattle.outline.proofs.Steps.{asked_next, asked_tick}
 use Rattle.board.specs.InPlace.{closed_put, outputs_put, raw_in, held_by, keyed_by, beside_batch, batch_done}
 use Rattle.images.specs.StateImage.{image_of}
 use Rattle.images.specs.Holds.{Holds}

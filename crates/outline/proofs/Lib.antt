@@ -3,6 +3,8 @@ pub mod Parts
 pub mod Opened
 -- laws that the proofs of the calls cite
 pub mod AnswerLaws
+pub mod Lengths
+pub mod Steps
 -- what the definitions owe
 pub mod OpeningLaw
 pub mod RawLaw

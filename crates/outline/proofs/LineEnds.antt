@@ -18,7 +18,7 @@ use Rattle.outline.specs.Limits.{line_limit}
 use Rattle.outline.specs.Tick.{settled_of, tick_of, unasked_of}
 use Rattle.outline.specs.Lines.{command_of}
 use Rattle.outline.specs.Replies.{reply_text, reply_due, told_of, asked_of, due_text, line_ticked, line_tick_of, written_of, reply_buffer}
-use Rattle.outline.specs.Lengths.{within_limit}
+use Rattle.outline.proofs.Lengths.{within_limit}
 use Rattle.outline.specs.EveryLine.{is_fitting, Empty}
 
 -- a command whose reply is empty

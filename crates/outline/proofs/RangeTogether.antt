@@ -42,7 +42,7 @@ use Rattle.outline.specs.Tick.{entered_of, weights_of, settled_of, served_of, wi
 use Rattle.outline.specs.Ranges.{flow_fits, TogetherRange}
 use Rattle.whole.specs.Chains.{and_left, and_both}
 use Rattle.outline.proofs.Parts.{cond_same, cond_in, clash, none_applies}
-use Rattle.outline.specs.Steps.{booked_stage, step_runs}
+use Rattle.outline.proofs.Steps.{booked_stage, step_runs}
 use Rattle.outline.proofs.RangeBook.{settled_book, ended_book}
 use Rattle.outline.proofs.RangeStability.{settled_stability, ended_stability}
 use Rattle.outline.proofs.RangeWeighing.{Counts, counts, ended_weighing}

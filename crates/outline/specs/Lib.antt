@@ -50,5 +50,6 @@ pub mod StaysTrue
 pub mod EveryLine
 -- laws that the code's proofs cite
 pub mod Within
-pub mod Steps
 pub mod Reads
+-- the states that the code has on its way
+pub mod Steps

@@ -12,7 +12,7 @@ use Rattle.outline.specs.Lines.{units_digit}
 use Rattle.outline.specs.Replies.{digits_of, letters_text}
 use Rattle.replies.specs.Put.{Put}
 use Rattle.replies.specs.Writers.{same}
-use Rattle.outline.specs.Lengths.{length_digits}
+use Rattle.outline.proofs.Lengths.{length_digits}
 
 -- two stores side by side
 pub pair : (l : List ℕ) (at a b : ℕ) → set (set l at a) (at + 1) b ≡ sets l at (a ∷ b ∷ [])

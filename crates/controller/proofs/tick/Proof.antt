@@ -15,7 +15,8 @@ use Rattle.outline.specs.Requests.{granted_of}
 use Rattle.outline.specs.Numbers.{outcome_number}
 use Rattle.outline.proofs.AnswerLaws.{tick_number}
 use Rattle.outline.specs.Tick.{next_of}
-use Rattle.outline.specs.Steps.{parts_of, step_idle, step-on, step_back, step-finished, left_of, left_by, left_nothing, left_zero, left_tare, left_tare_clear, left_start, left_stop, stopped_idle, stopped_runs, left_set, stored_idle, stored_runs, left_total_clear, left_undo, left_gross, left_net, left_close, left_discharge, Asked, asked_held, asked_stepped, asked_tick}
+use Rattle.outline.specs.Steps.{parts_of, left_of, Asked}
+use Rattle.outline.proofs.Steps.{step_idle, step-on, step_back, step-finished, left_by, left_nothing, left_zero, left_tare, left_tare_clear, left_start, left_stop, stopped_idle, stopped_runs, left_set, stored_idle, stored_runs, left_total_clear, left_undo, left_gross, left_net, left_close, left_discharge, asked_held, asked_stepped, asked_tick}
 use Rattle.controller.proofs.tick.Statement.{statement}
 use Rattle.controller.proofs.tick.Tie as tie
 use Rattle.controller.proofs.tick.Lts.{in-Nothing, in-Zero, in-Tare, in-TareClear, in-Start, in-Stop+then-not-is_idle, in-Stop+else-not-is_idle}

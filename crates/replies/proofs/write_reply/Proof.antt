@@ -5,7 +5,7 @@ use mathlib.Core.Path.{sym, ◌∙◌}
 use lib.ListN.{length}
 use Rattle.outline.specs.Replies.{framed}
 use Rattle.outline.specs.Texts.{text_of}
-use Rattle.outline.specs.Lengths.{prefix_short, text_short, length_framed}
+use Rattle.outline.proofs.Lengths.{prefix_short, text_short, length_framed}
 use Rattle.replies.specs.Writers.{more, fitted_bytes, short_bytes, silent_bytes}
 use Rattle.replies.proofs.Whole.{no_text, some_text, silent_answer, short_answer, fitted_answer}
 use borrow.Author.Rules.{rules}

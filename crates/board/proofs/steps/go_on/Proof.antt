@@ -8,7 +8,7 @@ use mir.Facts.{to_z-of_z}
 use Rattle.whole.specs.Bits.{got, be}
 use Rattle.whole.specs.Machine.{sfits_of}
 use Rattle.types.specs.declared.machine.State.{State}
-use Rattle.outline.specs.Steps.{step-on, step_back, step-finished}
+use Rattle.outline.proofs.Steps.{step-on, step_back, step-finished}
 use Rattle.board.proofs.Held.{read_part, held_as, by_sequence}
 use borrow.Author.Rules.{rules}
 use Rattle.board.proofs.steps.go_on.Statement.{statement}

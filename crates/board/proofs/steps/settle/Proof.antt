@@ -9,7 +9,7 @@ use Rattle.whole.specs.Machine.{sfits_of}
 use Rattle.types.specs.declared.daybook.Closed.TheVariants as closed
 use Rattle.types.specs.declared.machine.State.{State}
 use Rattle.types.specs.declared.machine.Settled.{Settled}
-use Rattle.outline.specs.Steps.{left_nothing, left_zero, left_tare, left_tare_clear, left_total_clear, left_undo, left_gross, left_net, left_close}
+use Rattle.outline.proofs.Steps.{left_nothing, left_zero, left_tare, left_tare_clear, left_total_clear, left_undo, left_gross, left_net, left_close}
 use Rattle.board.specs.InPlace.{closed_put, beside_batch}
 use Rattle.board.proofs.Held.{held_as}
 use Rattle.board.proofs.InTwo.{over_none}

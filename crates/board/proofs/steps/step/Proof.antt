@@ -4,7 +4,7 @@ use Rattle.types.specs.declared.machine.State.{State}
 use Rattle.outline.specs.Stages.{idle_of}
 use Rattle.outline.specs.Parts.{pick_state}
 use Rattle.outline.specs.Tick.{stepped_of}
-use Rattle.outline.specs.Steps.{step_idle}
+use Rattle.outline.proofs.Steps.{step_idle}
 use Rattle.board.proofs.Held.{read_part, held_as, stepped_on}
 use borrow.Author.Rules.{rules}
 use Rattle.board.proofs.steps.step.Statement.{statement}

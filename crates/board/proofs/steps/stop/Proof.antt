@@ -2,7 +2,7 @@
 use mathlib.Core.Path.{refl, sym, ap, ◌∙◌}
 use Rattle.types.specs.declared.machine.State.{State}
 use Rattle.outline.specs.Stages.{idle_of, stop_sequence}
-use Rattle.outline.specs.Steps.{stopped_idle, stopped_runs}
+use Rattle.outline.proofs.Steps.{stopped_idle, stopped_runs}
 use Rattle.board.proofs.Held.{read_part, held_as}
 use borrow.Author.Rules.{rules}
 use Rattle.board.proofs.steps.stop.Statement.{statement}

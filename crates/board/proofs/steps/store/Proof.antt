@@ -2,7 +2,7 @@
 use mathlib.Core.Path.{refl, sym, ◌∙◌}
 use Rattle.types.specs.declared.machine.State.{State}
 use Rattle.outline.specs.Stages.{idle_of}
-use Rattle.outline.specs.Steps.{stored_idle, stored_runs}
+use Rattle.outline.proofs.Steps.{stored_idle, stored_runs}
 use Rattle.board.proofs.Held.{read_part, held_as}
 use borrow.Author.Rules.{rules}
 use Rattle.board.proofs.steps.store.Statement.{statement}

@@ -27,7 +27,8 @@ use Rattle.outline.specs.Tick.{stepped_of, count_in, block_of}
 use Rattle.outline.specs.Numbers.{block_number}
 use Rattle.outline.specs.Answers.{block_due}
 use Rattle.outline.proofs.AnswerLaws.{block_number_lem}
-use Rattle.outline.specs.Steps.{parts_of, Parts, parts_next, step_idle, step-on, step_back, step-finished, step_runs}
+use Rattle.outline.specs.Steps.{parts_of, Parts}
+use Rattle.outline.proofs.Steps.{parts_next, step_idle, step-on, step_back, step-finished, step_runs}
 use Rattle.controller.proofs.block.run_block.Statement.{statement}
 use Rattle.controller.proofs.block.run_block.Tie as tie
 use Rattle.controller.proofs.block.run_block.Lts.{then-a, else-a, then-not-idle+then-is_idle, then-not-idle+else-is_idle, else-not-idle}

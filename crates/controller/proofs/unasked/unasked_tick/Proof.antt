@@ -13,7 +13,8 @@ use Rattle.outline.specs.Parts.{with_setpoints, with_waiting}
 use Rattle.outline.specs.Tick.{stepped_of}
 use Rattle.outline.specs.Numbers.{outcome_number}
 use Rattle.outline.proofs.AnswerLaws.{unasked_number}
-use Rattle.outline.specs.Steps.{parts_of, Parts, parts_tick, step_idle, step-on, step_back, step-finished}
+use Rattle.outline.specs.Steps.{parts_of, Parts}
+use Rattle.outline.proofs.Steps.{parts_tick, step_idle, step-on, step_back, step-finished}
 use Rattle.controller.proofs.unasked.unasked_tick.Statement.{statement}
 use Rattle.controller.proofs.unasked.unasked_tick.Tie as tie
 use Rattle.controller.proofs.unasked.unasked_tick.Lts.{then-a, else-a, then-not-idle+then-is_idle, then-not-idle+else-is_idle, else-not-idle}

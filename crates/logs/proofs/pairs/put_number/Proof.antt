@@ -10,7 +10,7 @@ use lib.Seq.{sets}
 use Rattle.replies.specs.Put.{Put}
 use Rattle.logs.specs.declared.pairs.Amount.{Amount}
 use Rattle.outline.specs.Replies.{digits_of}
-use Rattle.outline.specs.Lengths.{length_digits}
+use Rattle.outline.proofs.Lengths.{length_digits}
 use Rattle.outline.specs.Ticket.{decimal_text}
 use Rattle.replies.specs.Writers.{more, same, put_fits}
 use Rattle.logs.specs.Amounts.{number_line}

@@ -1,7 +1,7 @@
 -- The two tests are that the digits end within the buffer.
 use native.Mathlib.Omega.{arith}
 use borrow.Author.Rules.{rules}
-use Rattle.outline.specs.Lengths.{length_digits}
+use Rattle.outline.proofs.Lengths.{length_digits}
 use Rattle.outline.specs.Replies.{digits_of}
 use Rattle.replies.specs.Writers.{fits_put, too_long}
 use Rattle.replies.proofs.put.digits_at.Statement.{statement}

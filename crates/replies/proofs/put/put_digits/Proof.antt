@@ -6,7 +6,7 @@ use mathlib.Core.Path.{◌≡◌, refl, ◌∙◌}
 use lib.ListN.{length, length-set}
 use lib.Seq.{sets}
 use Rattle.outline.specs.Replies.{digits_of}
-use Rattle.outline.specs.Lengths.{length_digits}
+use Rattle.outline.proofs.Lengths.{length_digits}
 use Rattle.replies.proofs.Stores.{digit_down, no_digits, done}
 use Rattle.replies.proofs.put.put_digits.Statement.{statement}
 use Rattle.replies.proofs.put.put_digits.Tie as tie
