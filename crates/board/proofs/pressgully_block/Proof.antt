@@ -38,7 +38,7 @@ returns-then-not-is_possible : tie.Need-returns-then-not-is_possible
 unfolding given_in
 returns-then-not-is_possible c =
     let a = c.args in
-    let w = sym c.judged.ensures ∙ c.if1.false in
+    let w = sym c.judged-why.ensures ∙ c.if-why-ne0.false in
     let p = sym (c.is_possible.ensures ∙ possible_here _ _ (first_given_lem a.settings.now a.state.now w) (first_image a.settings.now a.state.now w)) ∙ c.if-not-is_possible.true in
     let r = block-kept a.settings.now a.state.now a.counts.now a.contact 21 (by_ranges a.settings.now a.state.now w p) (λ k. absurd (omega arith)) in
     r
@@ -56,7 +56,7 @@ returns-in-Refused : tie.Need-returns-in-Refused
 unfolding given_in
 returns-in-Refused c =
     let a = c.args in
-    let w = sym c.judged.ensures ∙ c.if1.false in
+    let w = sym c.judged-why.ensures ∙ c.if-why-ne0.false in
     let g = first_given_lem a.settings.now a.state.now w in
     let p = sym (c.is_possible.ensures ∙ possible_here _ _ g (first_image a.settings.now a.state.now w)) ∙ c.if-not-is_possible.false in
     let o = sym (c.opened.ensures g) ∙ c.in-Refused.is in
@@ -75,14 +75,14 @@ shape_of-state-in-Accepted c = search rules
 returns-in-Accepted : tie.Need-returns-in-Accepted
 unfolding given_in block_by
 returns-in-Accepted c =
-    let s = c.before.before.before.before.before.before.before.before.before.before.before.before.before.before.before.before in
+    let s = c.before.before.before.before.before.before.before.before.before.before.before.before in
     let a = s.args in
-    let w = sym c.judged.ensures ∙ c.if1.false in
+    let w = sym c.judged-why.ensures ∙ c.if-why-ne0.false in
     let g = first_given_lem a.settings.now a.state.now w in
     let p = sym (c.is_possible.ensures ∙ possible_here _ _ g (first_image a.settings.now a.state.now w)) ∙ c.if-not-is_possible.false in
     let u = unrefused a.settings.now a.state.now w p in
     let o = sym (c.opened.ensures g) ∙ c.in-Accepted.is in
-    let h = state_held a.settings.now a.state.now (λ i. (c.slice-known.given i).fits) u in
+    let h = state_held a.settings.now a.state.now (λ i. (c.slice_known-1.given i).fits) u in
     let r = block-done a.settings.now a.state.now a.counts.now a.contact (both_good _ _ _ u o) in
     let b = c.run_block.ensures in
     let same = same_block a.counts.now a.contact (sym (made_of _ _ o)) refl in

@@ -40,7 +40,7 @@ returns-then-not-is_possible : tie.Need-returns-then-not-is_possible
 unfolding given_in
 returns-then-not-is_possible c =
     let a = c.args in
-    let w = sym c.judged.ensures ∙ c.if1.false in
+    let w = sym c.judged-why.ensures ∙ c.if-why-ne0.false in
     let p = sym (c.is_possible.ensures ∙ possible_here _ _ (first_given_lem a.settings.now a.state.now w) (first_image a.settings.now a.state.now w)) ∙ c.if-not-is_possible.true in
     let r = line_kept a.settings.now a.state.now a.count a.contact a.receive.now a.reply.now a.answer.now 21 (by_ranges a.settings.now a.state.now w p) (λ k. absurd (omega arith)) in
     (r.0, (r.1, (r.2, r.3)))
@@ -58,7 +58,7 @@ returns-in-Refused : tie.Need-returns-in-Refused
 unfolding given_in
 returns-in-Refused c =
     let a = c.args in
-    let w = sym c.judged.ensures ∙ c.if1.false in
+    let w = sym c.judged-why.ensures ∙ c.if-why-ne0.false in
     let g = first_given_lem a.settings.now a.state.now w in
     let p = sym (c.is_possible.ensures ∙ possible_here _ _ g (first_image a.settings.now a.state.now w)) ∙ c.if-not-is_possible.false in
     let o = sym (c.opened.ensures g) ∙ c.in-Refused.is in
@@ -83,14 +83,14 @@ shape_of-answer-in-Accepted c = search rules
 returns-in-Accepted : tie.Need-returns-in-Accepted
 unfolding given_in line_by
 returns-in-Accepted c =
-    let s = c.before.before.before.before.before.before.before.before.before.before.before.before.before.before.before.before.before.before.before.before.before.before.before.before.before in
+    let s = c.before.before.before.before.before.before.before.before.before.before.before.before.before.before.before.before.before.before.before.before.before in
     let a = s.args in
-    let w = sym c.judged.ensures ∙ c.if1.false in
+    let w = sym c.judged-why.ensures ∙ c.if-why-ne0.false in
     let g = first_given_lem a.settings.now a.state.now w in
     let p = sym (c.is_possible.ensures ∙ possible_here _ _ g (first_image a.settings.now a.state.now w)) ∙ c.if-not-is_possible.false in
     let u = unrefused a.settings.now a.state.now w p in
     let o = sym (c.opened.ensures g) ∙ c.in-Accepted.is in
-    let h = state_held a.settings.now a.state.now (λ i. (c.slice-known.given i).fits) u in
+    let h = state_held a.settings.now a.state.now (λ i. (c.slice_known-1.given i).fits) u in
     let r = line-done a.settings.now a.state.now a.count a.contact a.receive.now a.reply.now a.answer.now (both_good _ _ _ u o) in
     let k = c.run_line.ensures in
     let settings = sym (made_of _ _ o) in

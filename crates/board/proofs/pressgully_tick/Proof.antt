@@ -39,7 +39,7 @@ returns-then-not-is_possible : tie.Need-returns-then-not-is_possible
 unfolding given_in
 returns-then-not-is_possible c =
     let a = c.args in
-    let w = sym c.judged.ensures ∙ c.if1.false in
+    let w = sym c.judged-why.ensures ∙ c.if-why-ne0.false in
     let p = sym (c.is_possible.ensures ∙ possible_here _ _ (first_given_lem a.settings.now a.state.now w) (first_image a.settings.now a.state.now w)) ∙ c.if-not-is_possible.true in
     let r = tick_kept a.settings.now a.state.now a.count a.contact a.request a.points.now a.answer.now 21 (by_ranges a.settings.now a.state.now w p) (λ k. absurd (omega arith)) in
     (r.0, (r.1, r.2))
@@ -57,7 +57,7 @@ returns-in-Refused : tie.Need-returns-in-Refused
 unfolding given_in
 returns-in-Refused c =
     let a = c.args in
-    let w = sym c.judged.ensures ∙ c.if1.false in
+    let w = sym c.judged-why.ensures ∙ c.if-why-ne0.false in
     let g = first_given_lem a.settings.now a.state.now w in
     let p = sym (c.is_possible.ensures ∙ possible_here _ _ g (first_image a.settings.now a.state.now w)) ∙ c.if-not-is_possible.false in
     let o = sym (c.opened.ensures g) ∙ c.in-Refused.is in
@@ -85,14 +85,14 @@ shape_of-answer-in-Accepted c = search rules
 returns-in-Accepted : tie.Need-returns-in-Accepted
 unfolding given_in tick_by
 returns-in-Accepted c =
-    let s = c.before.before.before.before.before.before.before.before.before.before.before.before.before.before.before.before.before.before.before.before.before.before.before in
+    let s = c.before.before.before.before.before.before.before.before.before.before.before.before.before.before.before.before.before.before.before in
     let a = s.args in
-    let w = sym c.judged.ensures ∙ c.if1.false in
+    let w = sym c.judged-why.ensures ∙ c.if-why-ne0.false in
     let g = first_given_lem a.settings.now a.state.now w in
     let p = sym (c.is_possible.ensures ∙ possible_here _ _ g (first_image a.settings.now a.state.now w)) ∙ c.if-not-is_possible.false in
     let u = unrefused a.settings.now a.state.now w p in
     let o = sym (c.opened.ensures g) ∙ c.in-Accepted.is in
-    let h = state_held a.settings.now a.state.now (λ i. (c.slice-known.given i).fits) u in
+    let h = state_held a.settings.now a.state.now (λ i. (c.slice_known-1.given i).fits) u in
     let r = tick-done a.settings.now a.state.now a.count a.contact a.request a.points.now a.answer.now (both_good _ _ _ u o) in
     let k = c.run_tick.ensures in
     let same = same_tick (sym (made_of _ _ o)) refl (same_input a.contact (arg s.ranges.count).read c.request_by-asked.ensures) in

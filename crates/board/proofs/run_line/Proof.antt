@@ -21,45 +21,45 @@ use Rattle.board.proofs.run_line.Tie as tie
 
 -- ---- the reply fits
 abbrev start : tie.After-slice_known-in-Bytes-6-1 → tie.Start
-start c = c.before.before.before.before.before.before.before.before.before.before.before.before.before.before.before.before.before.before.before.before.before.before.before.before.before.before.before.before.before.before.before.before.before.before.before.before.before.before.before.before.before.before.before.before.before.before.before.before.before.before.before.before
+start c = c.before.before.before.before.before.before.before.before.before.before.before.before.before.before.before.before.before.before.before.before.before.before.before.before.before.before.before.before.before.before.before.before.before.before.before.before.before.before.before.before.before.before.before.before.before.before
 
 fits : (c : tie.After-slice_known-in-Bytes-6-1) (st : State) → Holds (start c).args.state.now st
-    → Lined (start c).args.s st (start c).args.count (start c).args.contact (start c).args.receive.now (start c).args.reply.now c.told_number_lem.result (start c).args.answer.now c.step.new.1.1.1.0 c.reply.new.1.1.1.1.1.0 c.answer.new.1.1.1.1.1.1.0
+    → Lined (start c).args.s st (start c).args.count (start c).args.contact (start c).args.receive.now (start c).args.reply.now c.told_number-n.result (start c).args.answer.now c.step.new.state c.reply.new.reply c.answer.new.answer
 fits c st h =
     let a = (start c).args in
-    let e = simp (to_z-of_z (start c).ranges.count) at c.enter.ensures in
+    let e = simp (to_z-of_z (start c).ranges.count) at c.enter-x.ensures in
     let h1 = e.0 st h in
-    let h2 = held_as (batch_granted _ _ _) (c.settle-batch.ensures _ (c.settle.ensures.0 _ h1)) in
-    let h3 = keyed_as _ _ _ c.is-keyed.ensures (c.track.ensures _ h2) in
-    let h4 = held_on _ _ _ c.is_held_lem.ensures (c.step.ensures _ h3) in
-    let i : Input = input_of a.count a.contact c.request-of.result in
-    let r = leaves a.s st i c.enter.result c.ruled.result c.granted.result c.again.result c.told_number_lem.result c.length.given.0.0
-    a.answer.now c.step.new.1.1.1.0 c.settle.new.1.1.1.0 c.answer.new.1.1.1.1.1.1.0
-    (e.1 st h) (c.ruled.ensures _ h1) c.granted.ensures (c.again.ensures _ h2) h4 (c.settle.ensures.1 _ h1 ∙ ap (λ (d : Closed). closed_put d a.answer.now) (batch_closed _ _ _)) (c.answer.ensures _ h4) in
-    lined a.s st a.count a.contact a.receive.now a.reply.now c.command-of.result c.request-of.result c.enter.result c.ruled.result c.reply.result c.reply.new.1.1.1.1.1.0
-    c.command-of.ensures c.request-of.ensures (e.1 st h) (c.ruled.ensures _ h1) (c.reply.ensures.0 _ h1) (c.reply.ensures.1 _ h1)
-    c.told_number_lem.result a.answer.now c.step.new.1.1.1.0 c.answer.new.1.1.1.1.1.1.0
-    c.length.given.0.0 c.length.given.1 (c.told_number_lem.ensures ∙ ap told_number c.told_of.ensures) r
+    let h2 = held_as (batch_granted _ _ _) (c.settle_batch.ensures _ (c.settle.ensures.0 _ h1)) in
+    let h3 = keyed_as _ _ _ c.is_keyed.ensures (c.track.ensures _ h2) in
+    let h4 = held_on _ _ _ c.is_held.ensures (c.step.ensures _ h3) in
+    let i : Input = input_of a.count a.contact c.request_of-request.result in
+    let r = leaves a.s st i c.enter-x.result c.ruled-outcome.result c.granted-done.result c.again-x.result c.told_number-n.result c.in-Bytes.length
+    a.answer.now c.step.new.state c.settle.new.answer c.answer.new.answer
+    (e.1 st h) (c.ruled-outcome.ensures _ h1) c.granted-done.ensures (c.again-x.ensures _ h2) h4 (c.settle.ensures.1 _ h1 ∙ ap (λ (d : Closed). closed_put d a.answer.now) (batch_closed _ _ _)) (c.answer.ensures _ h4) in
+    lined a.s st a.count a.contact a.receive.now a.reply.now c.command_of-command.result c.request_of-request.result c.enter-x.result c.ruled-outcome.result c.reply.result c.reply.new.reply
+    c.command_of-command.ensures c.request_of-request.ensures (e.1 st h) (c.ruled-outcome.ensures _ h1) (c.reply.ensures.0 _ h1) (c.reply.ensures.1 _ h1)
+    c.told_number-n.result a.answer.now c.step.new.state c.answer.new.answer
+    c.in-Bytes.length c.in-Bytes.is (c.told_number-n.ensures ∙ ap told_number c.told_of.ensures) r
 
 -- ---- it does not
 abbrev start2 : tie.After-slice_known-in-Short-4-1 → tie.Start
-start2 c = c.before.before.before.before.before.before.before.before.before.before.before.before.before.before.before.before.before.before.before.before.before.before.before.before.before.before.before.before.before.before.before.before.before.before.before.before.before
+start2 c = c.before.before.before.before.before.before.before.before.before.before.before.before.before.before.before.before.before.before.before.before.before.before.before.before.before.before.before.before.before.before.before.before.before
 
 falls_short : (c : tie.After-slice_known-in-Short-4-1) (st : State) → Holds (start2 c).args.state.now st
-    → Lined (start2 c).args.s st (start2 c).args.count (start2 c).args.contact (start2 c).args.receive.now (start2 c).args.reply.now 14 (start2 c).args.answer.now c.step2.new.1.1.1.0 c.reply.new.1.1.1.1.1.0 c.answer-in-Short.new.1.1.1.1.1.1.0
+    → Lined (start2 c).args.s st (start2 c).args.count (start2 c).args.contact (start2 c).args.receive.now (start2 c).args.reply.now 14 (start2 c).args.answer.now c.step-in-Short.new.state c.reply.new.reply c.answer-in-Short.new.answer
 falls_short c st h =
     let a = (start2 c).args in
-    let e = simp (to_z-of_z (start2 c).ranges.count) at c.enter.ensures in
+    let e = simp (to_z-of_z (start2 c).ranges.count) at c.enter-x.ensures in
     let h1 = e.0 st h in
-    let h2 = c.track2.ensures _ h1 in
-    let h3 = c.step2.ensures _ h2 in
-    let r = unasked-leaves a.s st a.count a.contact c.enter.result (e.1 st h) 14 0
-    a.answer.now c.step2.new.1.1.1.0 c.put-none.new.0 c.answer-in-Short.new.1.1.1.1.1.1.0
-    h3 c.put-none.ensures (c.answer-in-Short.ensures _ h3) in
-    lined-short a.s st a.count a.contact a.receive.now a.reply.now c.command-of.result c.request-of.result c.enter.result c.ruled.result c.reply.result c.reply.new.1.1.1.1.1.0
-    c.command-of.ensures c.request-of.ensures (e.1 st h) (c.ruled.ensures _ h1) (c.reply.ensures.0 _ h1) (c.reply.ensures.1 _ h1)
-    14 a.answer.now c.step2.new.1.1.1.0 c.answer-in-Short.new.1.1.1.1.1.1.0
-    c.enum_told.given.1 refl r
+    let h2 = c.track-in-Short.ensures _ h1 in
+    let h3 = c.step-in-Short.ensures _ h2 in
+    let r = unasked-leaves a.s st a.count a.contact c.enter-x.result (e.1 st h) 14 0
+    a.answer.now c.step-in-Short.new.state c.put_none.new.s c.answer-in-Short.new.answer
+    h3 c.put_none.ensures (c.answer-in-Short.ensures _ h3) in
+    lined-short a.s st a.count a.contact a.receive.now a.reply.now c.command_of-command.result c.request_of-request.result c.enter-x.result c.ruled-outcome.result c.reply.result c.reply.new.reply
+    c.command_of-command.ensures c.request_of-request.ensures (e.1 st h) (c.ruled-outcome.ensures _ h1) (c.reply.ensures.0 _ h1) (c.reply.ensures.1 _ h1)
+    14 a.answer.now c.step-in-Short.new.state c.answer-in-Short.new.answer
+    c.in-Short.is refl r
 
 returns-then-answer-lt-ANSWER_LENGTH : tie.Need-returns-then-answer-lt-ANSWER_LENGTH
 returns-then-answer-lt-ANSWER_LENGTH c =
@@ -121,10 +121,10 @@ overflow_cast-result : tie.Need-overflow_cast-result
 overflow_cast-result c = search rules
 
 shape_of-reply-in-Bytes : tie.Need-shape_of-reply-in-Bytes
-shape_of-reply-in-Bytes c = search (rules, c.reply, c.step, c.track, c.settle-batch, c.settle, c.enter)
+shape_of-reply-in-Bytes c = search (rules, c.reply, c.step, c.track, c.settle_batch, c.settle, c.enter-x)
 
 shape_of-state-in-Bytes : tie.Need-shape_of-state-in-Bytes
-shape_of-state-in-Bytes c = search (rules, c.step, c.track, c.settle-batch, c.settle, c.enter)
+shape_of-state-in-Bytes c = search (rules, c.step, c.track, c.settle_batch, c.settle, c.enter-x)
 
 shape_of-answer-in-Bytes : tie.Need-shape_of-answer-in-Bytes
 shape_of-answer-in-Bytes c = search rules
@@ -132,7 +132,7 @@ shape_of-answer-in-Bytes c = search rules
 returns-in-Bytes : tie.Need-returns-in-Bytes
 returns-in-Bytes c =
     let a = (start c).args in
-    let room = c.if1.false in (
+    let room = c.if-answer-lt-ANSWER_LENGTH.false in (
       (λ st h. (fits c st h).told ∙ is_room a.answer.now _ 14 room),
       (
         (λ st h. (fits c st h).next ∙ is_room a.answer.now _ a.state.now room),
@@ -170,7 +170,7 @@ shape_of-answer-in-Short c = search rules
 returns-in-Short : tie.Need-returns-in-Short
 returns-in-Short c =
     let a = (start2 c).args in
-    let room = c.if1.false in (
+    let room = c.if-answer-lt-ANSWER_LENGTH.false in (
       (λ st h. (falls_short c st h).told ∙ is_room a.answer.now _ 14 room),
       (
         (λ st h. (falls_short c st h).next ∙ is_room a.answer.now _ a.state.now room),

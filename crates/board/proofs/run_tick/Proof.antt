@@ -21,29 +21,29 @@ use Rattle.board.proofs.run_tick.Statement.{statement}
 use Rattle.board.proofs.run_tick.Tie as tie
 
 abbrev start : tie.After-slice_known-9-1 → tie.Start
-start c = c.before.before.before.before.before.before.before.before.before.before.before.before.before.before.before.before.before.before.before.before.before.before.before.before.before.before.before.before.before.before.before.before.before.before.before.before.before.before.before
+start c = c.before.before.before.before.before.before.before.before.before.before.before.before.before.before.before.before.before.before.before.before.before.before.before.before.before.before.before.before.before.before.before.before.before.before.before.before
 
 abbrev asked : tie.After-slice_known-9-1 → Input
 asked c = input_of (start c).args.count (start c).args.contact (start c).args.request
 
 -- what the steps leave, of a state that the buffer holds
 done : (c : tie.After-slice_known-9-1) (st : State) → Holds (start c).args.state.now st
-    → Ran (start c).args.s st (asked c) c.ruled.result c.told-by.result 0 (start c).args.answer.now c.step.new.1.1.1.0 c.answer.new.1.1.1.1.1.1.0
+    → Ran (start c).args.s st (asked c) c.ruled-outcome.result c.told_by-told.result 0 (start c).args.answer.now c.step.new.state c.answer.new.answer
 done c st h =
-    let e = simp (to_z-of_z (start c).ranges.count) at c.enter.ensures in
+    let e = simp (to_z-of_z (start c).ranges.count) at c.enter-x.ensures in
     let h1 = e.0 st h in
-    let h2 = held_as (batch_granted _ _ _) (c.settle-batch.ensures _ (c.settle.ensures.0 _ h1)) in
-    let h3 = keyed_as _ _ _ c.is-keyed.ensures (c.track.ensures _ h2) in
-    let h4 = held_on _ _ _ c.is_held_lem.ensures (c.step.ensures _ h3) in
-    leaves (start c).args.s st (asked c) c.enter.result c.ruled.result c.granted.result c.again.result c.told-by.result 0
-    (start c).args.answer.now c.step.new.1.1.1.0 c.settle.new.1.1.1.0 c.answer.new.1.1.1.1.1.1.0
-    (e.1 st h) (c.ruled.ensures _ h1) c.granted.ensures (c.again.ensures _ h2) h4 (c.settle.ensures.1 _ h1 ∙ ap (λ (d : Closed). closed_put d (start c).args.answer.now) (batch_closed _ _ _)) (c.answer.ensures _ h4)
+    let h2 = held_as (batch_granted _ _ _) (c.settle_batch.ensures _ (c.settle.ensures.0 _ h1)) in
+    let h3 = keyed_as _ _ _ c.is_keyed.ensures (c.track.ensures _ h2) in
+    let h4 = held_on _ _ _ c.is_held.ensures (c.step.ensures _ h3) in
+    leaves (start c).args.s st (asked c) c.enter-x.result c.ruled-outcome.result c.granted-done.result c.again-x.result c.told_by-told.result 0
+    (start c).args.answer.now c.step.new.state c.settle.new.answer c.answer.new.answer
+    (e.1 st h) (c.ruled-outcome.ensures _ h1) c.granted-done.ensures (c.again-x.ensures _ h2) h4 (c.settle.ensures.1 _ h1 ∙ ap (λ (d : Closed). closed_put d (start c).args.answer.now) (batch_closed _ _ _)) (c.answer.ensures _ h4)
 
 told : (c : tie.After-slice_known-9-1) (st : State) → Holds (start c).args.state.now st
-    → c.told-by.result ≡ told_of (start c).args.known (tick_of (start c).args.s st (asked c))
+    → c.told_by-told.result ≡ told_of (start c).args.known (tick_of (start c).args.s st (asked c))
 unfolding told_of
 told c st h =
-    c.told-by.ensures ∙ sym (λ i. cond (start c).args.known (outcome_number ((done c st h).outcome i)) 13)
+    c.told_by-told.ensures ∙ sym (λ i. cond (start c).args.known (outcome_number ((done c st h).outcome i)) 13)
 
 returns-then-answer-lt-ANSWER_LENGTH : tie.Need-returns-then-answer-lt-ANSWER_LENGTH
 returns-then-answer-lt-ANSWER_LENGTH c =
@@ -90,7 +90,7 @@ overflow_cast-result : tie.Need-overflow_cast-result
 overflow_cast-result c = search rules
 
 shape_of-state : tie.Need-shape_of-state
-shape_of-state c = search (rules, c.step, c.track, c.settle-batch, c.settle, c.enter)
+shape_of-state c = search (rules, c.step, c.track, c.settle_batch, c.settle, c.enter-x)
 
 shape_of-answer : tie.Need-shape_of-answer
 shape_of-answer c = search rules
@@ -98,7 +98,7 @@ shape_of-answer c = search rules
 returns : tie.Need-returns
 returns c =
     let a = (start c).args in
-    let room = c.if1.false in (
+    let room = c.if-answer-lt-ANSWER_LENGTH.false in (
       (λ st h. told c st h ∙ is_room a.answer.now _ 14 room),
       (
         (λ st h. (done c st h).next ∙ is_room a.answer.now _ a.state.now room),

@@ -27,7 +27,7 @@ shape_of-state c = search rules
 
 returns : tie.Need-returns
 returns c st h =
-    let start = c.before.before.before.before.before.before.before.before.before.before.before.before.before in
+    let start = c.before.before.before.before.before.before.before.before.before.before.before.before in
     let t = read_part (λ (t : State). t.totals) c.totals_at-totals.ensures h in
     let es = by_totals _ _ _ t (simp (to_z-of_z start.ranges.v) at c.booked_sequence.ensures) in
     let et = booked_by _ _ t (simp (to_z-of_z start.ranges.v) at c.booked_totals.ensures) in

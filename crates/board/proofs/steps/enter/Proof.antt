@@ -16,21 +16,21 @@ use Rattle.board.proofs.steps.enter.Statement.{statement}
 use Rattle.board.proofs.steps.enter.Tie as tie
 
 abbrev start : tie.After-weigh → tie.Start
-start c = c.before.before.before.before.before.before.before.before.before.before.before.before.before.before.before.before.before.before.before.before
+start c = c.before.before.before.before.before.before.before.before.before.before.before.before.before.before.before.before.before.before.before
 
 -- what the parts made come to
 record Made (c : tie.After-weigh) (st : State) : Type 0 where
-  raw : c.raw_of.result ≡ raw_of (start c).args.s.calibration (start c).args.count
+  raw : c.raw_of-raw.result ≡ raw_of (start c).args.s.calibration (start c).args.count
   steadied : c.steadied-steadied.result ≡ steadied_of (start c).args.s.steadiness st.stability st.book.last (raw_of (start c).args.s.calibration (start c).args.count)
   booked : c.book_tick.result ≡ book_of st.book (raw_of (start c).args.s.calibration (start c).args.count) (start c).args.contact
 
 made : (c : tie.After-weigh) (st : State) → Holds (start c).args.state.now st → Made c st
 made c st h =
     let a = (start c).args in
-    let er = simp (to_z-of_z (start c).ranges.count) at c.raw_of.ensures in
-    let b = read_part (λ (t : State). t.book) c.book-at.ensures h in
+    let er = simp (to_z-of_z (start c).ranges.count) at c.raw_of-raw.ensures in
+    let b = read_part (λ (t : State). t.book) c.book_at-book.ensures h in
     let q = read_part (λ (t : State). t.stability) c.stability_at-stability.ensures h in
-    let last : SFits w32 c.book-at.result.last = search (sfits_of, c.struct_told-1.given) in
+    let last : SFits w32 c.book_at-book.result.last = search (sfits_of, c.struct_told-1.given) in
     record {
       raw = er;
       steadied = simp (to_z-of_z last) at c.steadied-steadied.ensures ∙ (λ i. steadied_of a.s.steadiness (q i) (b i).last (er i));

@@ -23,7 +23,7 @@ shape_of-state c = search rules
 
 returns : tie.Need-returns
 returns c st h =
-    let start = c.before.before.before.before.before.before.before.before in
+    let start = c.before.before.before.before.before.before.before in
     let w = read_part (λ (t : State). t.weighing) c.weighing_at-weighing.ensures h in
     let e = simp (to_z-of_z start.ranges.tare) at c.tared.ensures ∙ (λ i. tared_of (w i) start.args.tare) in
     held_as (λ i. with_weighing st (e i)) (c.put_weighing.ensures.0 st h)

@@ -8,7 +8,7 @@ use Rattle.board.proofs.steps.raw_again.Statement.{statement}
 use Rattle.board.proofs.steps.raw_again.Tie as tie
 
 raw : (s : tie.Start) → SFits w32 s.args.x.raw
-raw s = search (sfits_of, s.well-formed.0)
+raw s = search (sfits_of, s.well_formed.0)
 
 returns-then-x : tie.Need-returns-then-x
 unfolding raw_in

@@ -18,10 +18,10 @@ use Rattle.board.proofs.steps.settle.Statement.{statement}
 use Rattle.board.proofs.steps.settle.Tie as tie
 
 raw : (s : tie.Start) → SFits w32 s.args.x.raw
-raw s = search (sfits_of, s.well-formed.1.0)
+raw s = search (sfits_of, s.well_formed.1.0)
 
 gross : (s : tie.Start) → SFits w32 s.args.x.gross
-gross s = search (sfits_of, s.well-formed.1.0)
+gross s = search (sfits_of, s.well_formed.1.0)
 
 abbrev leaving : Settled → State
 leaving a = a.state

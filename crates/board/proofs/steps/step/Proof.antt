@@ -25,7 +25,7 @@ shape_of-state-then-is_idle c = search rules
 returns-then-is_idle : tie.Need-returns-then-is_idle
 returns-then-is_idle c st h =
     let q = read_part (λ (t : State). t.sequence) c.sequence_at-sequence.ensures h in
-    held_as (stepped_on _ st _ _ _ c.if1.false (step_idle _ st _ (sym (c.is_idle.ensures ∙ (λ i. idle_of (q i).stage)) ∙ c.if-is_idle.true))) h
+    held_as (stepped_on _ st _ _ _ c.if-held.false (step_idle _ st _ (sym (c.is_idle.ensures ∙ (λ i. idle_of (q i).stage)) ∙ c.if-is_idle.true))) h
 
 go_on-requires : tie.Need-go_on-requires
 go_on-requires c κs = search rules
@@ -37,7 +37,7 @@ returns : tie.Need-returns
 returns c st h =
     let q = read_part (λ (t : State). t.sequence) c.sequence_at-sequence.ensures h in
     let runs = sym (c.is_idle.ensures ∙ (λ i. idle_of (q i).stage)) ∙ c.if-is_idle.false in
-    held_as (stepped_on _ st _ _ _ c.if1.false refl) (c.go_on.ensures st h q runs)
+    held_as (stepped_on _ st _ _ _ c.if-held.false refl) (c.go_on.ensures st h q runs)
 
 pub step_spec : {M : Type 1} → statement M
 step_spec =

@@ -30,9 +30,9 @@ shape_of-state c = search rules
 returns : tie.Need-returns
 returns c st h =
     let a = c.args in
-    let q = read_part (λ (t : State). t.sequence) c.sequence-at.ensures h in
+    let q = read_part (λ (t : State). t.sequence) c.sequence_at-sequence.ensures h in
     let w = read_part (λ (t : State). t.weighing) c.weighing_at-weighing.ensures h in
-    let idle = c.is-idle.ensures ∙ (λ i. idle_of (q i).stage) in
+    let idle = c.is_idle-idle.ensures ∙ (λ i. idle_of (q i).stage) in
     let e = c.tracked.ensures ∙ (λ i. tracked_of a.s (idle i) a.keyed a.x (w i)) in
     held_as (λ i. with_weighing st (e i)) (c.put_weighing.ensures.0 st h)
 
