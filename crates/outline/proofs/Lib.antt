@@ -5,6 +5,7 @@ pub mod Opened
 pub mod AnswerLaws
 pub mod Lengths
 pub mod Steps
+pub mod ReadLaw
 -- what the definitions owe
 pub mod OpeningLaw
 pub mod RawLaw

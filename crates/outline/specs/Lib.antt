@@ -50,6 +50,5 @@ pub mod StaysTrue
 pub mod EveryLine
 -- laws that the code's proofs cite
 pub mod Within
-pub mod Reads
 -- the states that the code has on its way
 pub mod Steps

@@ -19,7 +19,7 @@ use Rattle.types.specs.declared.lines.LineTick.{LineTick}
 use Rattle.outline.specs.Tick.{settled_of, outputs_of, tick_of, unasked_of}
 use Rattle.outline.specs.Lines.{command_of}
 use Rattle.outline.specs.Replies.{request_of, reply_text, reply_due, told_of, asked_of, due_text, line_ticked, line_tick_of, written_of, reply_buffer}
-use Rattle.outline.specs.Reads.{due_before}
+use Rattle.outline.proofs.ReadLaw.{due_before}
 use Rattle.replies.specs.declared.Wrote.{Wrote}
 use Rattle.replies.specs.declared.Wrote.TheVariants.{Bytes, Short}
 use Rattle.replies.specs.Wrote.{wrote_of}
