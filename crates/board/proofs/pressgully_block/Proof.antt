@@ -1,7 +1,6 @@
 -- The bytes refuse, the ranges or the settings do, or what was asked is run in the buffer of the state.
 use mathlib.Core.Path.{refl, sym, ◌∙◌}
 use native.Mathlib.Omega.{arith}
-use borrow.Author.Tests.{not-true, not-false}
 use Rattle.images.specs.GivenImage.{given_in}
 use Rattle.images.proofs.Buffers.{possible_here}
 use Rattle.images.specs.StateImage.{image_of}

@@ -2,7 +2,6 @@
 use Prim.Native.Nat.{ℕ}
 use mathlib.Core.Path.{sym, ap, ◌∙◌}
 use lib.ListN.{replicate}
-use borrow.Author.Tests.{not-true, not-false}
 use Rattle.outline.specs.Tick.{open_state}
 use Rattle.images.specs.GivenImage.{given_in}
 use Rattle.images.proofs.Buffers.{possible_here}

@@ -1,5 +1,5 @@
 -- The count's variant and the test of the rest pick the case; the rest's length keeps the places from wrapping.
-use Prim.Native.Nat.{ℕ, ◌+◌}
+use Prim.Native.Nat.{ℕ}
 use mathlib.Core.Path.{◌≡◌, sym, ◌∙◌}
 use mathlib.Core.List.{List}
 use native.Mathlib.Omega.{arith}

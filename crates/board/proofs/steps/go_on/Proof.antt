@@ -1,7 +1,6 @@
 -- The setpoints are those that the buffer holds, the sequence is as it says. A stage that goes on is written; where it returns to 00 a finished
 -- batch is booked, and what waits comes into use.
 use mathlib.Core.Path.{refl, sym, ◌∙◌}
-use borrow.Author.Tests.{not-true, not-false}
 use mir.Syntax.{w32, w64}
 use mir.Val.{SFits}
 use mir.Facts.{to_z-of_z}

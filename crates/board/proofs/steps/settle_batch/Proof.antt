@@ -1,7 +1,5 @@
 -- Request by request, or any other, which changes nothing.
-use mathlib.Core.Path.{refl, ap, sym, ◌∙◌}
-use Rattle.types.specs.declared.requests.Request.{Request}
-use Rattle.types.specs.declared.machine.State.{State}
+use mathlib.Core.Path.{ap, sym, ◌∙◌}
 use Rattle.outline.specs.Parts.{with_sequence}
 use Rattle.board.specs.InPlace.{batch_done}
 use Rattle.board.proofs.Done.{not_batched}

@@ -3,7 +3,7 @@ use Prim.Native.Nat.{ℕ, ◌-◌, ◌≤◌, ◌<◌, zero-le}
 use mathlib.Core.Path.{◌≡◌, refl, sym, ◌∙◌}
 use mathlib.Core.List.{List}
 use native.Mathlib.Omega.{arith}
-use lib.ListN.{length, get_or, take}
+use lib.ListN.{take}
 use Rattle.outline.specs.Log.{digit_run, value_from}
 use Rattle.logs.proofs.RunLaws.{run_length, byte_range, value_more, value_limit}
 use Rattle.logs.proofs.numerals.value_of.Statement.{statement}

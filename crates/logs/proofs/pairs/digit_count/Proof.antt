@@ -1,6 +1,6 @@
 -- The digits counted, and those of what is left, are one more than all; what is left has no more than may follow. It is also the measure.
-use Prim.Native.Nat.{ℕ, suc, ◌+◌, ◌-◌, ◌^◌, ◌≤◌, ◌<◌}
-use mathlib.Core.Path.{◌≡◌, refl}
+use Prim.Native.Nat.{suc, ◌+◌, ◌-◌, ◌^◌, ◌≤◌, ◌<◌}
+use mathlib.Core.Path.{◌≡◌}
 use native.Mathlib.Nat.{div-lt_self}
 use native.Mathlib.Omega.{arith}
 use lib.ListN.{length}

@@ -1,10 +1,10 @@
 -- A line has no more bytes than its end tells, so the second part reaches to the line's own end.
-use Prim.Native.Nat.{ℕ, ◌-◌, ◌≤◌}
+use Prim.Native.Nat.{ℕ, ◌-◌}
 use mathlib.Core.Path.{◌≡◌, ◌∙◌}
 use mathlib.Core.List.{List}
 use native.Mathlib.Omega.{arith}
 use borrow.Author.Rules.{rules}
-use lib.ListN.{length, take, drop, length-take, length-drop}
+use lib.ListN.{take, drop, length-take, length-drop}
 use lib.Seq.{take_all}
 use Rattle.logs.proofs.reader.request_in.Statement.{statement}
 use Rattle.logs.proofs.reader.request_in.Tie as tie

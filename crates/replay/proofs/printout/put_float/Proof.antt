@@ -1,7 +1,7 @@
 -- A float that is equal to itself is no NaN.
 use borrow.Author.Rules.{rules}
 use mathlib.Core.Path.{◌≡◌, subst}
-use mathlib.Core.Bool.{true, false, not}
+use mathlib.Core.Bool.{false, not}
 use lib.Dec.{T}
 use lib.Ieee.{Float, nan, inf, fin, ne, eq, is_nan}
 use Rattle.replay.proofs.printout.put_float.Statement.{statement}
