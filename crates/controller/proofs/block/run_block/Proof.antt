@@ -116,7 +116,7 @@ start t = (at t).before.before.before.before
 
 -- there is a count at that place, and a block has few
 within : (t : tie.After-tracked-st invariant-loop-i decreases-loop-i) → (at t).loop-i.i < length (start t).args.counts.now
-within t = t.loop-i-test.true
+within t = omega (arith, t.loop-i-test.true)
 
 few : (t : tie.After-tracked-st invariant-loop-i decreases-loop-i) → length (start t).args.counts.now ≤ block_limit
 few t = (at t).before.before.before.if-counts-gt-BLOCK_LIMIT.false
