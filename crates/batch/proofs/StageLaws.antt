@@ -1,5 +1,6 @@
 -- Step 6 in parts, as the code has them: which stages are left where one is told, and what the step is in a delay, in a flow stage and in 15
 -- and 16, over plain variables.
+use Rattle.std.specs.Prelude.{None, ℕ}
 use Prim.Native.Nat.{ℕ, suc, ◌+◌, ◌<◌, ◌≤◌}
 use mathlib.Core.Path.{◌≡◌, refl, sym, subst, ◌∙◌}
 use mathlib.Core.Bool.{true, false}
@@ -16,7 +17,6 @@ use Rattle.types.specs.declared.stages.Setpoints.{Setpoints}
 use Rattle.types.specs.declared.stages.Sequence.{Sequence}
 use Rattle.types.specs.declared.stages.Facts.{Facts}
 use Rattle.types.specs.declared.stages.Advanced.{Advanced}
-use Rattle.types.specs.declared.stages.Timing.TheVariants as timing
 use Rattle.types.specs.declared.stages.Move.TheVariants.{To, Emptied}
 use Rattle.types.specs.declared.stages.SequenceError.TheVariants as error
 use Rattle.types.specs.declared.stages.Stage.{Stage}
@@ -145,7 +145,7 @@ module _ (b : Batching) (p : Setpoints) (q : Sequence) (f : Facts) (fit : f.unfi
   unfolding land_of
   delay_to g eg i l e g' m = (simp (eg, m, l, e)) ∙ delay_on g eg i l e
 
-  pub start_over : (t : ℕ) → q.stage ≡ StartDelay t → wait_of b.start t ≡ timing.Over → (r : Advanced) → r ≡ land_of q (after_start b.mode p f) → r ≡ advance_of b p q f
+  pub start_over : (t : ℕ) → q.stage ≡ StartDelay t → wait_of b.start t ≡ None → (r : Advanced) → r ≡ land_of q (after_start b.mode p f) → r ≡ advance_of b p q f
   unfolding move_of
   start_over t eg w r e = e ∙ (simp (eg, w)) ∙ delay_on (StartDelay t) eg refl refl refl
 

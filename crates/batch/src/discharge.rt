@@ -5,7 +5,7 @@ ghost use Rattle.outline.specs.Stages.{facts_at, emptying_of, discharging_of, ad
 use crate::stages::{fail, to, wait};
 use setpoints::levels::is_at_near;
 use types::settings::Batching;
-use types::stages::{Advanced, Sequence, SequenceError, Setpoints, Stage, Timing};
+use types::stages::{Advanced, Sequence, SequenceError, Setpoints, Stage};
 
 // 14 to 16, a discharge.
 pub(crate) fn is_discharging(stage: Stage) -> bool
@@ -38,8 +38,8 @@ pub(crate) fn discharged(b: Batching, p: Setpoints, q: Sequence, gross: i32) -> 
         return emptied(b, p, q, gross);
     };
     match wait(b.discharge.start, t) {
-        Timing::Still(u) => return to(q, 0, Stage::DischargeStart(u)),
-        Timing::Over => return to(q, 0, Stage::Discharge),
+        Some(u) => return to(q, 0, Stage::DischargeStart(u)),
+        None => return to(q, 0, Stage::Discharge),
     }
 }
 
@@ -62,7 +62,7 @@ fn emptied(b: Batching, p: Setpoints, q: Sequence, gross: i32) -> Advanced
     };
     // 16, the end delay; behind it the discharge is over
     match wait(b.discharge.end, t) {
-        Timing::Still(u) => return to(q, clock, Stage::DischargeEnd(u)),
-        Timing::Over => return to(q, 0, Stage::Idle),
+        Some(u) => return to(q, clock, Stage::DischargeEnd(u)),
+        None => return to(q, 0, Stage::Idle),
     }
 }

@@ -8,7 +8,7 @@ use crate::comparison::{is_over, is_reached, is_under};
 use crate::sequence::failed;
 use setpoints::has_no_large;
 use types::settings::{Batching, Mode};
-use types::stages::{Advanced, Judgement, Sequence, SequenceError, Setpoints, Stage, Timing};
+use types::stages::{Advanced, Judgement, Sequence, SequenceError, Setpoints, Stage};
 
 // An error ends it.
 pub(crate) fn fail(q: Sequence, e: SequenceError) -> Advanced
@@ -54,17 +54,17 @@ fn finish(q: Sequence, judgement: Judgement) -> Advanced
 }
 
 // A timed stage of n lasts max(n, 1) ticks: t lie before this one.
-pub(crate) fn wait(n: u16, t: u16) -> Timing
+pub(crate) fn wait(n: u16, t: u16) -> Option<u16>
     ensures { result ≡ wait_of n t }
 {
     if n <= t {
-        return Timing::Over;
+        return None;
     }
     let next = t + 1;
     if n <= next {
-        Timing::Over
+        None
     } else {
-        Timing::Still(next)
+        Some(next)
     }
 }
 
@@ -127,8 +127,8 @@ pub(crate) fn batched(b: Batching, p: Setpoints, q: Sequence, v: i64, stable: bo
         return flowed(b, p, q, v, stable);
     };
     match wait(b.start, t) {
-        Timing::Still(u) => return to(q, 0, Stage::StartDelay(u)),
-        Timing::Over => {
+        Some(u) => return to(q, 0, Stage::StartDelay(u)),
+        None => {
             let mode = b.mode;
             return after_start(mode, p, q, v);
         }
@@ -148,8 +148,8 @@ fn flowed(b: Batching, p: Setpoints, q: Sequence, v: i64, stable: bool) -> Advan
     let stage = q.stage;
     match stage {
         Stage::LargeDisable(t) => match wait(b.large, t) {
-            Timing::Still(u) => return to(q, clock, Stage::LargeDisable(u)),
-            Timing::Over => return to(q, clock, Stage::LargeFlow),
+            Some(u) => return to(q, clock, Stage::LargeDisable(u)),
+            None => return to(q, clock, Stage::LargeFlow),
         },
         Stage::LargeFlow => {
             if is_reached(p, p.optional, v) {
@@ -158,8 +158,8 @@ fn flowed(b: Batching, p: Setpoints, q: Sequence, v: i64, stable: bool) -> Advan
             return to(q, clock, Stage::LargeFlow);
         }
         Stage::MediumDisable(t) => match wait(b.medium, t) {
-            Timing::Still(u) => return to(q, clock, Stage::MediumDisable(u)),
-            Timing::Over => return to(q, clock, Stage::MediumFlow),
+            Some(u) => return to(q, clock, Stage::MediumDisable(u)),
+            None => return to(q, clock, Stage::MediumFlow),
         },
         Stage::MediumFlow => {
             if is_reached(p, p.preliminary, v) {
@@ -168,8 +168,8 @@ fn flowed(b: Batching, p: Setpoints, q: Sequence, v: i64, stable: bool) -> Advan
             return to(q, clock, Stage::MediumFlow);
         }
         Stage::SmallDisable(t) => match wait(b.small, t) {
-            Timing::Still(u) => return to(q, clock, Stage::SmallDisable(u)),
-            Timing::Over => return to(q, clock, Stage::SmallFlow),
+            Some(u) => return to(q, clock, Stage::SmallDisable(u)),
+            None => return to(q, clock, Stage::SmallFlow),
         },
         Stage::SmallFlow => {
             if is_reached(p, p.fall, v) {
@@ -178,8 +178,8 @@ fn flowed(b: Batching, p: Setpoints, q: Sequence, v: i64, stable: bool) -> Advan
             return to(q, clock, Stage::SmallFlow);
         }
         Stage::JudgeDelay(t) => match wait(b.judge, t) {
-            Timing::Still(u) => return to(q, clock, Stage::JudgeDelay(u)),
-            Timing::Over => return to(q, clock, Stage::JudgeWait),
+            Some(u) => return to(q, clock, Stage::JudgeDelay(u)),
+            None => return to(q, clock, Stage::JudgeWait),
         },
         Stage::JudgeWait => {
             if stable {

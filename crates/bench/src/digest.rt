@@ -1,9 +1,8 @@
 // One number of a state, and one of all outputs, that others hardly have.
 use types::analog::Analog;
-use types::daybook::{Book, Closed};
-use types::lines::{LineAnswer, LineTick};
+use types::daybook::Book;
+use types::lines::{LineRefusal, LineTick};
 use types::machine::{Answer, Reading, State};
-use types::requests::Outcome;
 use types::stages::{Gates, Totals};
 use types::weight::Weighing;
 
@@ -70,10 +69,10 @@ fn gate_bits(g: Gates) -> u32 {
     bit(g.large, 8) | bit(g.medium, 16) | bit(g.small, 32) | bit(g.discharge, 64)
 }
 
-fn is_refused(outcome: Outcome) -> bool {
+fn is_refused(outcome: Result<(), Refusal>) -> bool {
     match outcome {
-        Outcome::Done => false,
-        Outcome::Refused(_) => true,
+        Ok(()) => false,
+        Err(_) => true,
     }
 }
 
@@ -86,10 +85,10 @@ fn is_high(a: Analog) -> bool {
 }
 
 // The opening of a day that was closed.
-fn closed_opening(closed: Closed) -> i32 {
+fn closed_opening(closed: Option<Book>) -> i32 {
     match closed {
-        Closed::Nothing => 0,
-        Closed::Day(book) => book.opening,
+        None => 0,
+        Some(book) => book.opening,
     }
 }
 
@@ -110,9 +109,9 @@ pub(crate) fn looked(seen: Seen, a: Answer) -> Seen {
     }
 }
 
-fn is_done(told: LineAnswer) -> bool {
+fn is_done(told: Result<(), LineRefusal>) -> bool {
     match told {
-        LineAnswer::Done => true,
+        Ok(()) => true,
         _ => false,
     }
 }

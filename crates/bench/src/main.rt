@@ -11,7 +11,7 @@ use crate::modes::{Run, asked_ticks, block_ticks, line_ticks, unasked_ticks};
 use controller::opening::{open, open_state};
 use std::io::{self, Read};
 use types::requests::Request;
-use types::settings::{Opening, Settings};
+use types::settings::Settings;
 use types::stages::Setpoints;
 
 mod digest;
@@ -126,7 +126,7 @@ fn main(rt: HostRuntime) -> io::Result<()> {
     rt.reader().take(SPACE_BYTES).read_to_end(&mut space)?;
     let bytes = space.as_slice();
     match open(input::given(bytes)) {
-        Opening::Accepted(s) => run_all(&rt, s, bytes),
-        Opening::Refused => print(&rt, "refused=", 10),
+        Some(s) => run_all(&rt, s, bytes),
+        None => print(&rt, "refused=", 10),
     }
 }

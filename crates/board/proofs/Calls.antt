@@ -1,4 +1,5 @@
 -- Any calls over an image are the ticks over its state: nothing is lost between two calls. Assumes nothing.
+use Rattle.std.specs.Prelude.{None, Some, ℤ, ℕ, Ok, Err}
 use Prim.Native.Nat.{ℕ}
 use native.Mathlib.Omega.{arith}
 use mathlib.Core.Path.{◌≡◌, refl, sym, ap, ◌∙◌}
@@ -10,11 +11,10 @@ use lib.IntN.{ℤ}
 use borrow.Author.Tests.{eq-eqb, eqb-true, lt-ltb}
 use Rattle.types.specs.declared.settings.Given.{Given}
 use Rattle.types.specs.declared.settings.Settings.{Settings}
-use Rattle.types.specs.declared.settings.Opening.TheVariants as opening
 use Rattle.types.specs.declared.machine.State.{State}
 use Rattle.types.specs.declared.machine.Input.{Input}
 use Rattle.types.specs.declared.machine.Blocked.{Blocked}
-use Rattle.types.specs.declared.machine.BlockAnswer.TheVariants as ran
+use Rattle.types.specs.declared.machine.BlockRefusal.TheVariants as ran
 use Rattle.types.specs.declared.lines.LineTick.{LineTick}
 use Rattle.outline.specs.Limits.{block_limit}
 use Rattle.outline.specs.Settings.{settings_fit, settings_of, open_of}
@@ -50,13 +50,13 @@ use Rattle.board.specs.Owed.{Call, tick, line, block, image_after, image_run, ti
 record Passed (l t : List ℕ) : Type 0 where
   given : (given_in l).refusal ≡ 0
   state : (state_in (given_by l) t).refusal ≡ 0
-  opened : open_of (given_by l) ≡ opening.Accepted (settings_by l)
+  opened : open_of (given_by l) ≡ Some (settings_by l)
 
-opens : (g : Given) → opening_number (open_of g) ≡ 0 → open_of g ≡ opening.Accepted (settings_of g)
+opens : (g : Given) → opening_number (open_of g) ≡ 0 → open_of g ≡ Some (settings_of g)
 unfolding open_of
 opens g = go (settings_fit g)
   where
-    go : (b : Bool) → opening_number (cond b (opening.Accepted (settings_of g)) opening.Refused) ≡ 0 → cond b (opening.Accepted (settings_of g)) opening.Refused ≡ opening.Accepted (settings_of g)
+    go : (b : Bool) → opening_number (cond b (Some (settings_of g)) None) ≡ 0 → cond b (Some (settings_of g)) None ≡ Some (settings_of g)
     go true e = refl
     go false e = absurd (omega arith)
 
@@ -86,7 +86,7 @@ passes l t e =
     record { given = n.0; state = n.1; opened = opens (given_by l) n.2 }
 
 -- and the other way round
-unrefused : (l t : List ℕ) (s : Settings) → (given_in l).refusal ≡ 0 → (state_in (given_by l) t).refusal ≡ 0 → open_of (given_by l) ≡ opening.Accepted s → refusal_by l t ≡ 0
+unrefused : (l t : List ℕ) (s : Settings) → (given_in l).refusal ≡ 0 → (state_in (given_by l) t).refusal ≡ 0 → open_of (given_by l) ≡ Some s → refusal_by l t ≡ 0
 unfolding refusal_by call_refusal images_refusal
 unrefused l t s e f o = simp (e, f, o)
 
@@ -110,7 +110,7 @@ block_is : (s : Settings) (st : State) (counts : List ℤ) (contact : Bool) → 
 unfolding block_of run_from
 block_is s st counts contact = go (leb (length counts) block_limit)
   where
-    go : (b : Bool) → (cond {A = Blocked} b (record { answer = ran.Run; state = foldl (count_in s contact) st counts }) (record { answer = ran.TooLong; state = st })).state ≡ foldl (next_of s) st (cond b (block_inputs counts contact) [])
+    go : (b : Bool) → (cond {A = Blocked} b (record { answer = Ok tt; state = foldl (count_in s contact) st counts }) (record { answer = Err ran.TooLong; state = st })).state ≡ foldl (next_of s) st (cond b (block_inputs counts contact) [])
     go true = counts_are s st counts contact
     go false = refl
 
@@ -178,7 +178,7 @@ calls_are_runs g s held o h cs =
     let back = given_back g held in
     let given : (given_in l).refusal ≡ 0 = ap (λ (x : GivenRead). x.refusal) back in
     let same : given_by l ≡ g = ap (λ (x : GivenRead). x.given) back in
-    let accepted : open_of (given_by l) ≡ opening.Accepted s = ap open_of same ∙ o in
+    let accepted : open_of (given_by l) ≡ Some s = ap open_of same ∙ o in
     let state : state_in (given_by l) (image_of (run_of s h)) ≡ good (run_of s h) = ap (λ (x : Given). state_in x (image_of (run_of s h))) same ∙ runs_pass g s o h in
     let whole = unrefused l (image_of (run_of s h)) s given (ap (λ (x : StateRead). x.refusal) state) accepted in
     (calls_are_ticks l (image_of (run_of s h)) whole cs).image
@@ -229,7 +229,7 @@ unrefused_all : (a n r : ℕ) → a ≡ 0 → n ≡ state_length → r ≡ 0 →
 unfolding images_refusal length_refusal
 unrefused_all a n r ea en er = simp (ea, en, er)
 
-grows_possible : (g : Given) (s : Settings) → Held g → open_of g ≡ opening.Accepted s → (st : State) → possible s st ≡ true
+grows_possible : (g : Given) (s : Settings) → Held g → open_of g ≡ Some s → (st : State) → possible s st ≡ true
     → st.waiting ≡ none_waiting → (t : List ℕ) → length t ≡ state_length → GrownBack (given_image g) (take earlier_length (image_of st)) t st
 grows_possible g s k a st p w t n =
     let l = given_image g in

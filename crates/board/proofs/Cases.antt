@@ -1,4 +1,5 @@
 -- What a call answers and leaves, by what it was refused with. Assumes nothing.
+use Rattle.std.specs.Prelude.{None, Some, ℤ, ℕ}
 use Prim.Native.Nat.{ℕ, ◌≤◌}
 use native.Mathlib.Omega.{arith}
 use mathlib.Core.Path.{◌≡◌, refl, sym, ap, ◌∙◌}
@@ -10,7 +11,6 @@ use lib.IntN.{ℤ}
 use borrow.Author.Tests.{eq-eqb, ne_eqb, eqb-true, le-leb}
 use Rattle.types.specs.declared.settings.Given.{Given}
 use Rattle.types.specs.declared.settings.Settings.{Settings}
-use Rattle.types.specs.declared.settings.Opening.TheVariants as opening
 use Rattle.types.specs.declared.requests.Request.{Request}
 use Rattle.types.specs.declared.machine.State.{State}
 use Rattle.types.specs.declared.machine.Input.{Input}
@@ -43,11 +43,11 @@ module _ (a b : ℕ) (g : Given) where
   unfolding call_refusal
   by_images n = simp (ne_eqb (images_refusal a b) 0 n)
 
-  pub by_settings : images_refusal a b ≡ 0 → open_of g ≡ opening.Refused → call_refusal a b g ≡ 10
+  pub by_settings : images_refusal a b ≡ 0 → open_of g ≡ None → call_refusal a b g ≡ 10
   unfolding call_refusal
   by_settings e o = simp (e, o)
 
-  pub by_none : (s : Settings) → images_refusal a b ≡ 0 → open_of g ≡ opening.Accepted s → call_refusal a b g ≡ 0
+  pub by_none : (s : Settings) → images_refusal a b ≡ 0 → open_of g ≡ Some s → call_refusal a b g ≡ 0
   unfolding call_refusal
   by_none s e o = simp (e, o)
 
@@ -62,7 +62,7 @@ module _ (a b : ℕ) (g : Given) where
       go false false false k e = absurd (clash (eq-eqb a 0 e) k)
 
 -- accepted settings are what is made of the numbers given
-pub made_of : (g : Given) (s : Settings) → open_of g ≡ opening.Accepted s → settings_of g ≡ s
+pub made_of : (g : Given) (s : Settings) → open_of g ≡ Some s → settings_of g ≡ s
 made_of g s e = (passed g s e).made
 
 -- ---- lengths
@@ -142,11 +142,11 @@ module _ (l t : List ℕ) where
       let e = by_images (given_in l).refusal (length_refusal (length t)) (given_by l) n in
       (sym e, rw e (is_kept whyOpen (image_of open_state) t n))
 
-  pub open_settings : whyOpen ≡ 0 → open_of (given_by l) ≡ opening.Refused → (10 ≡ open_answer l (length t)) × (t ≡ open_image l t)
+  pub open_settings : whyOpen ≡ 0 → open_of (given_by l) ≡ None → (10 ≡ open_answer l (length t)) × (t ≡ open_image l t)
   unfolding open_answer open_image
   open_settings w o = let e = by_settings (given_in l).refusal (length_refusal (length t)) (given_by l) w o in (sym e, rw e)
 
-  pub open_good : (s : Settings) → whyOpen ≡ 0 → open_of (given_by l) ≡ opening.Accepted s → (0 ≡ open_answer l (length t)) × (replicate (length t) 0 ≡ open_image l t)
+  pub open_good : (s : Settings) → whyOpen ≡ 0 → open_of (given_by l) ≡ Some s → (0 ≡ open_answer l (length t)) × (replicate (length t) 0 ≡ open_image l t)
   unfolding open_answer open_image
   open_good s w o =
       let e = by_none (given_in l).refusal (length_refusal (length t)) (given_by l) s w o in
@@ -227,11 +227,11 @@ module _ (l e t : List ℕ) where
     unfolding grow_answer grow_image call_refusal images_refusal earlier_by
     grow-ranges p = (simp (given-none, length_none, earlier-none, p), simp (given-none, length_none, earlier-none, p))
 
-    pub grow-settings : canGrow ≡ true → open_of (given_by l) ≡ opening.Refused → (10 ≡ grow_answer l e (length t)) × (t ≡ grow_image l e t)
+    pub grow-settings : canGrow ≡ true → open_of (given_by l) ≡ None → (10 ≡ grow_answer l e (length t)) × (t ≡ grow_image l e t)
     unfolding grow_answer grow_image call_refusal images_refusal earlier_by
     grow-settings p o = (simp (given-none, length_none, earlier-none, p, o), simp (given-none, length_none, earlier-none, p, o))
 
-    pub grow-good : (s : Settings) → canGrow ≡ true → open_of (given_by l) ≡ opening.Accepted s
+    pub grow-good : (s : Settings) → canGrow ≡ true → open_of (given_by l) ≡ Some s
         → (0 ≡ grow_answer l e (length t)) × (grown_of e ≡ grow_image l e t)
     unfolding grow_answer grow_image call_refusal images_refusal earlier_by
     grow-good s p o = (simp (given-none, length_none, earlier-none, p, o), simp (given-none, length_none, earlier-none, p, o))
@@ -314,11 +314,11 @@ module _ (l t : List ℕ) where
   pub unrefused : first ≡ 0 → canBe ≡ true → why ≡ 0
   unrefused e p = first_passes e ∙ ap (λ (b : Bool). cond b 0 21) p
 
-  pub both_settings : why ≡ 0 → open_of (given_by l) ≡ opening.Refused → refusal_by l t ≡ 10
+  pub both_settings : why ≡ 0 → open_of (given_by l) ≡ None → refusal_by l t ≡ 10
   unfolding refusal_by
   both_settings w o = by_settings (given_in l).refusal (state_in (given_by l) t).refusal (given_by l) w o
 
-  pub both_good : (s : Settings) → why ≡ 0 → open_of (given_by l) ≡ opening.Accepted s → refusal_by l t ≡ 0
+  pub both_good : (s : Settings) → why ≡ 0 → open_of (given_by l) ≡ Some s → refusal_by l t ≡ 0
   unfolding refusal_by
   both_good s w o = by_none (given_in l).refusal (state_in (given_by l) t).refusal (given_by l) s w o
 

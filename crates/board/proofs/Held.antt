@@ -1,18 +1,17 @@
 -- What is read from a buffer that holds a state is the state's. Assumes nothing.
+use Rattle.std.specs.Prelude.{Option, None, Some, Result, ℤ, ℕ}
 use Prim.Native.Nat.{ℕ}
 use mathlib.Core.Path.{◌≡◌, sym, ap, subst, ◌∙◌}
 use mathlib.Core.Bool.{Bool, true, false}
 use mathlib.Core.List.{List}
 use lib.IntN.{ℤ}
 use lib.ListN.{length}
+use Rattle.types.specs.declared.requests.Refusal.{Refusal}
+use Rattle.types.specs.declared.daybook.Book.{Book}
 use Rattle.types.specs.declared.settings.Settings.{Settings}
-use Rattle.types.specs.declared.requests.Outcome.{Outcome}
-use Rattle.types.specs.declared.daybook.Closed.{Closed}
 use Rattle.types.specs.declared.weight.Weights.{Weights}
 use Rattle.types.specs.declared.settings.Batching.{Batching}
 use Rattle.types.specs.declared.stages.Setpoints.{Setpoints}
-use Rattle.types.specs.declared.stages.Write.TheVariants as write
-use Rattle.types.specs.declared.stages.Waiting.{Waiting}
 use Rattle.types.specs.declared.stages.Sequence.{Sequence}
 use Rattle.types.specs.declared.stages.Totals.{Totals}
 use Rattle.types.specs.declared.stages.Facts.{Facts}
@@ -42,7 +41,7 @@ here h = ap is_image (holds_length h)
 pub read_part : {A : Type 0} (f : State → A) {l : List ℕ} {st : State} {r : A} → r ≡ f (state_at (bytes_from l)) → Holds l st → r ≡ f st
 read_part f e h = part_here _ (here h) f e ∙ ap f (holds_state h)
 
-pub read_waiting : {l : List ℕ} {st : State} {r : Waiting} → r ≡ (state_at (bytes_of state_length l)).waiting → Holds l st → r ≡ st.waiting
+pub read_waiting : {l : List ℕ} {st : State} {r : Option Setpoints} → r ≡ (state_at (bytes_of state_length l)).waiting → Holds l st → r ≡ st.waiting
 read_waiting e h = waiting_here _ (here h) e ∙ ap (λ (t : State). t.waiting) (holds_state h)
 
 -- what is read from an earlier image
@@ -53,7 +52,7 @@ read_earlier f l e n = part_here l (ap is_image n) f e
 pub grown_bytes : (e : List ℕ) {l : List ℕ} → earlier_refusal e ≡ 0 → Holds l (with_waiting (state_at e) none_waiting) → l ≡ grown_of e
 grown_bytes e z h =
     let k = passes e z in
-    sym h.image ∙ ap (λ (w : Waiting). image_of (with_waiting (state_at e) w)) (sym (none_behind e (omega (arith, k.0)))) ∙ k.1
+    sym h.image ∙ ap (λ (w : Option Setpoints). image_of (with_waiting (state_at e) w)) (sym (none_behind e (omega (arith, k.0)))) ∙ k.1
 
 -- the same state by another name, and the same bytes
 pub held_as_bytes : {l m : List ℕ} {st : State} → l ≡ m → Holds m st → Holds l st
@@ -63,17 +62,17 @@ pub held_as : {l : List ℕ} {a b : State} → a ≡ b → Holds l a → Holds l
 held_as {l} e h = subst (Holds l) e h
 
 -- the outputs ask for three parts of a state
-pub shown_by : (s : Settings) (o : Outcome) (d : Closed) (x : Weights) (a b : State) → a.panel ≡ b.panel → a.setpoints ≡ b.setpoints → a.sequence ≡ b.sequence
+pub shown_by : (s : Settings) (o : Result (Unit {0}) Refusal) (d : Option Book) (x : Weights) (a b : State) → a.panel ≡ b.panel → a.setpoints ≡ b.setpoints → a.sequence ≡ b.sequence
     → outputs_of s (answered_of o d a) x a ≡ outputs_of s (answered_of o d b) x b
 unfolding outputs_of
 shown_by s o d x a b ep en eq = simp (ep, en, eq)
 
 -- what comes into use where the stage returns to 00: nothing, or what waits
 module _ (st : State) where
-  pub came_none : st.waiting.write ≡ write.Nothing → st ≡ comes_in true st
-  came_none e = λ i. with_waiting (with_setpoints st (written_else (sym e i) st.setpoints)) (record { write = e i })
+  pub came_none : st.waiting ≡ None → st ≡ comes_in true st
+  came_none e = λ i. with_waiting (with_setpoints st (written_else (sym e i) st.setpoints)) (e i)
 
-  pub came_points : (p : Setpoints) → st.waiting.write ≡ write.Points p → with_waiting (with_setpoints st p) none_waiting ≡ comes_in true st
+  pub came_points : (p : Setpoints) → st.waiting ≡ Some p → with_waiting (with_setpoints st p) none_waiting ≡ comes_in true st
   came_points p e = simp e
 
 -- step 6 and its booking, of parts that are read

@@ -1,20 +1,17 @@
 -- A tick in the outline's order, each step done to the state that the one before left: together they are the tick. Assumes nothing.
+use Rattle.std.specs.Prelude.{Option, None, Some, Result, Ok, ℤ, ℕ}
 use mathlib.Core.Path.{◌≡◌, refl, sym, ap, ◌∙◌}
 use mathlib.Core.Bool.{Bool, false}
 use mathlib.Core.List.{List}
 use Prim.Native.Nat.{ℕ}
 use lib.IntN.{ℤ}
+use Rattle.types.specs.declared.requests.Refusal.{Refusal}
 use Rattle.types.specs.declared.settings.Settings.{Settings}
-use Rattle.types.specs.declared.daybook.Closed.TheVariants as closed
-use Rattle.types.specs.declared.weight.Raw.{Raw}
-use Rattle.types.specs.declared.weight.Raw.TheVariants as raw
 use Rattle.types.specs.declared.weight.Weights.{Weights}
 use Rattle.types.specs.declared.weight.Stability.{Stability}
 use Rattle.types.specs.declared.weight.Weighing.{Weighing}
 use Rattle.types.specs.declared.requests.Request.{Request}
 use Rattle.types.specs.declared.requests.Request.TheVariants as request
-use Rattle.types.specs.declared.requests.Outcome.{Outcome}
-use Rattle.types.specs.declared.requests.Outcome.TheVariants as outcome
 use Rattle.types.specs.declared.machine.State.{State}
 use Rattle.types.specs.declared.machine.Input.{Input}
 use Rattle.types.specs.declared.machine.Ticked.{Ticked}
@@ -34,7 +31,7 @@ use Rattle.board.specs.AnswerImage.{answer_buffer}
 use Rattle.board.proofs.InTwo.{with_closed, in_two}
 
 -- ---- what the request that is done tells
-pub granted_by : (st : State) (x : Weights) (d : Request) → left_of outcome.Done (granted_of st x d).state (held_by d) (keyed_by d) (granted_of st x d).closed ≡ granted_of st x d
+pub granted_by : (st : State) (x : Weights) (d : Request) → left_of (Ok tt) (granted_of st x d).state (held_by d) (keyed_by d) (granted_of st x d).closed ≡ granted_of st x d
 unfolding granted_of
 granted_by st x request.Nothing = refl
 granted_by st x request.Zero = refl
@@ -84,19 +81,19 @@ batch_closed st x request.DayClose = refl
 batch_closed st x request.Discharge = refl
 
 -- ---- what the weights tell of the count that they were made from
-pub raw_again : (s : Settings) (q : Stability) (w : Weighing) (r : Raw) (contact : Bool) → raw_in (weigh_of s q w r contact) ≡ r
+pub raw_again : (s : Settings) (q : Stability) (w : Weighing) (r : Option ℤ) (contact : Bool) → raw_in (weigh_of s q w r contact) ≡ r
 unfolding raw_in weigh_of
-raw_again s q w raw.Bad contact = refl
-raw_again s q w (raw.Tenths t) contact = refl
+raw_again s q w None contact = refl
+raw_again s q w (Some t) contact = refl
 
-pub contact_again : (s : Settings) (q : Stability) (w : Weighing) (r : Raw) (contact : Bool) → (weigh_of s q w r contact).contact ≡ contact
+pub contact_again : (s : Settings) (q : Stability) (w : Weighing) (r : Option ℤ) (contact : Bool) → (weigh_of s q w r contact).contact ≡ contact
 unfolding weigh_of
-contact_again s q w raw.Bad contact = refl
-contact_again s q w (raw.Tenths t) contact = refl
+contact_again s q w None contact = refl
+contact_again s q w (Some t) contact = refl
 
 -- ---- the tick: x are the weights of steps 1 to 3, o the ruling, d the request that is done, x' the weights again
-module _ (s : Settings) (st : State) (i : Input) (x : Weights) (o : Outcome) (d : Request) (x' : Weights) where
-  abbrev raws : Raw
+module _ (s : Settings) (st : State) (i : Input) (x : Weights) (o : Result (Unit {0}) Refusal) (d : Request) (x' : Weights) where
+  abbrev raws : Option ℤ
   raws = raw_of s.calibration i.count
 
   abbrev entered : State
@@ -140,24 +137,24 @@ module _ (s : Settings) (st : State) (i : Input) (x : Weights) (o : Outcome) (d 
     ran-next = asked_next asked
 
     -- and every output, with the day that was closed
-    pub ran : ◌≡◌ {A = Ticked} (record { state = last; answer = with_closed (outputs_of s (answered_of o closed.Nothing last) x' last) (granted_of entered x d).closed }) (tick_of s st i)
+    pub ran : ◌≡◌ {A = Ticked} (record { state = last; answer = with_closed (outputs_of s (answered_of o None last) x' last) (granted_of entered x d).closed }) (tick_of s st i)
     unfolding outputs_of
     ran = asked_tick asked last _ ran-next refl
 
 -- ---- what the tick leaves in its two buffers: `image` and `answer` are theirs, `told` and `length` what stands in the answer, `blank` its bytes before
-pub record Ran (s : Settings) (st : State) (i : Input) (o : Outcome) (told length : ℕ) (blank image answer : List ℕ) : Type 0 where
+pub record Ran (s : Settings) (st : State) (i : Input) (o : Result (Unit {0}) Refusal) (told length : ℕ) (blank image answer : List ℕ) : Type 0 where
   pub outcome : (tick_of s st i).answer.outcome ≡ o
   pub next : image ≡ image_of (tick_of s st i).state
   pub shown : answer ≡ answer_buffer told length (tick_of s st i).answer blank
 
-module _ (s : Settings) (st : State) (i : Input) (x : Weights) (o : Outcome) (d : Request) (x' : Weights) (told length : ℕ) (blank image day answer : List ℕ) where
+module _ (s : Settings) (st : State) (i : Input) (x : Weights) (o : Result (Unit {0}) Refusal) (d : Request) (x' : Weights) (told length : ℕ) (blank image day answer : List ℕ) where
   pub leaves : x ≡ weights_of s (entered_of s st (raw_of s.calibration i.count) i.contact) (raw_of s.calibration i.count) i.contact
       → o ≡ ruling_of s (entered_of s st (raw_of s.calibration i.count) i.contact) x i.request
       → d ≡ grant_of o i.request
       → x' ≡ weights_of s (granted_of (entered_of s st (raw_of s.calibration i.count) i.contact) x d).state (raw_in x) x.contact
       → Holds image (last s st i x o d x')
       → day ≡ closed_put (granted_of (entered_of s st (raw_of s.calibration i.count) i.contact) x d).closed blank
-      → answer ≡ outputs_put told length (outputs_of s (answered_of o closed.Nothing (last s st i x o d x')) x' (last s st i x o d x')) day
+      → answer ≡ outputs_put told length (outputs_of s (answered_of o None (last s st i x o d x')) x' (last s st i x o d x')) day
       → Ran s st i o told length blank image answer
   unfolding outputs_of
   leaves ex eo ed es h eb ea =
@@ -166,8 +163,8 @@ module _ (s : Settings) (st : State) (i : Input) (x : Weights) (o : Outcome) (d 
         outcome = sym (λ k. (t k).answer.outcome);
         next = sym h.image ∙ (λ k. image_of (t k).state);
         shown =
-            ea ∙ ap (outputs_put told length (outputs_of s (answered_of o closed.Nothing (last s st i x o d x')) x' (last s st i x o d x'))) eb
-            ∙ in_two told length (outputs_of s (answered_of o closed.Nothing (last s st i x o d x')) x' (last s st i x o d x')) (granted_of (entered_of s st (raw_of s.calibration i.count) i.contact) x d).closed blank
+            ea ∙ ap (outputs_put told length (outputs_of s (answered_of o None (last s st i x o d x')) x' (last s st i x o d x'))) eb
+            ∙ in_two told length (outputs_of s (answered_of o None (last s st i x o d x')) x' (last s st i x o d x')) (granted_of (entered_of s st (raw_of s.calibration i.count) i.contact) x d).closed blank
             ∙ (λ k. answer_buffer told length (t k).answer blank);
       }
 
@@ -183,7 +180,7 @@ module _ (s : Settings) (st : State) (count : ℤ) (contact : Bool) (x : Weights
   askedNothing = pick_state false moved (stepped_of s moved x)
 
   module _ (ex : x ≡ weights_of s begun (raw_of s.calibration count) contact) where
-    done : outcome.Done ≡ ruling_of s begun x request.Nothing
+    done : (Ok tt) ≡ ruling_of s begun x request.Nothing
     unfolding ruling_of
     done = refl
 
@@ -195,11 +192,11 @@ module _ (s : Settings) (st : State) (count : ℤ) (contact : Bool) (x : Weights
 
     pub unasked-next : askedNothing ≡ next_of s st (unasked_of count contact)
     unfolding granted_of
-    unasked-next = ran-next s st (unasked_of count contact) x outcome.Done request.Nothing x ex done refl again
+    unasked-next = ran-next s st (unasked_of count contact) x (Ok tt) request.Nothing x ex done refl again
 
-    pub unasked-leaves : (told length : ℕ) (blank image day answer : List ℕ) → Holds image askedNothing → day ≡ closed_put closed.Nothing blank
-        → answer ≡ outputs_put told length (outputs_of s (answered_of outcome.Done closed.Nothing askedNothing) x askedNothing) day
-        → Ran s st (unasked_of count contact) outcome.Done told length blank image answer
+    pub unasked-leaves : (told length : ℕ) (blank image day answer : List ℕ) → Holds image askedNothing → day ≡ closed_put None blank
+        → answer ≡ outputs_put told length (outputs_of s (answered_of (Ok tt) None askedNothing) x askedNothing) day
+        → Ran s st (unasked_of count contact) (Ok tt) told length blank image answer
     unfolding granted_of
     unasked-leaves told length blank image day answer h eb ea =
-        leaves s st (unasked_of count contact) x outcome.Done request.Nothing x told length blank image day answer ex done refl again h eb ea
+        leaves s st (unasked_of count contact) x (Ok tt) request.Nothing x told length blank image day answer ex done refl again h eb ea

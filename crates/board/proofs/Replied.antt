@@ -1,14 +1,14 @@
 -- The reply that is due to a line, made before anything of it is done, and the tick with a line of both. Assumes nothing.
+use Rattle.std.specs.Prelude.{Result, Ok, ℤ, ℕ, Err}
 use Prim.Native.Nat.{ℕ}
 use mathlib.Core.Path.{◌≡◌, refl, ap, ◌∙◌}
 use mathlib.Core.Bool.{Bool}
 use mathlib.Core.List.{List}
 use lib.IntN.{ℤ}
+use Rattle.types.specs.declared.requests.Refusal.{Refusal}
 use Rattle.types.specs.declared.settings.Settings.{Settings}
 use Rattle.types.specs.declared.requests.Request.{Request}
 use Rattle.types.specs.declared.requests.Request.TheVariants as request
-use Rattle.types.specs.declared.requests.Outcome.{Outcome}
-use Rattle.types.specs.declared.requests.Outcome.TheVariants as outcome
 use Rattle.types.specs.declared.weight.Panel.{Panel}
 use Rattle.types.specs.declared.weight.Weights.{Weights}
 use Rattle.outline.specs.Setpoints.{latest_of}
@@ -19,11 +19,13 @@ use Rattle.types.specs.declared.machine.Ticked.{Ticked}
 use Rattle.types.specs.declared.machine.Reading.{Reading}
 use Rattle.types.specs.declared.lines.Word.{Word}
 use Rattle.types.specs.declared.lines.Word.TheVariants as word
-use Rattle.types.specs.declared.lines.Command.{Command}
-use Rattle.types.specs.declared.lines.Command.TheVariants as command
+use Rattle.types.specs.declared.lines.Order.{Order}
+use Rattle.types.specs.declared.lines.LineFault.{LineFault}
+use Rattle.types.specs.declared.lines.Order.TheVariants as order
+use Rattle.types.specs.declared.lines.LineFault.TheVariants as fault
 use Rattle.types.specs.declared.lines.Reply.{Reply}
 use Rattle.types.specs.declared.lines.Reply.TheVariants as reply
-use Rattle.types.specs.declared.lines.LineAnswer.TheVariants as told
+use Rattle.types.specs.declared.lines.LineRefusal.TheVariants as told
 use Rattle.outline.specs.Weight.{raw_of}
 use Rattle.outline.specs.Requests.{ruling_of, granted_of, decided_of}
 use Rattle.outline.specs.Numbers.{told_number}
@@ -40,7 +42,7 @@ use Rattle.board.specs.Board.{input_of}
 use Rattle.board.proofs.InOrder.{Ran}
 
 -- ---- it asks for four parts of a state
-module _ (a b : State) (x : Reading) (o : Outcome) (ep : a.panel ≡ b.panel) (et : a.totals ≡ b.totals) (en : a.setpoints ≡ b.setpoints)
+module _ (a b : State) (x : Reading) (o : Result (Unit {0}) Refusal) (ep : a.panel ≡ b.panel) (et : a.totals ≡ b.totals) (en : a.setpoints ≡ b.setpoints)
     (ew : a.waiting ≡ b.waiting) where
   word_shown : (w : Word) → word_reply w a x o ≡ word_reply w b x o
   word_shown word.ReadWeight = ap (λ (p : Panel). reply.Weight (shown_of p.display x)) ep
@@ -58,18 +60,18 @@ module _ (a b : State) (x : Reading) (o : Outcome) (ep : a.panel ≡ b.panel) (e
   word_shown word.DayClose = refl
   word_shown word.Discharge = refl
 
-  pub due_shown : (c : Command) → reply_due c a x o ≡ reply_due c b x o
+  pub due_shown : (c : Result Order LineFault) → reply_due c a x o ≡ reply_due c b x o
   unfolding reply_due
-  due_shown (command.Do w) = word_shown w
-  due_shown (command.Set p) = refl
-  due_shown command.NoLine = refl
-  due_shown command.LongLine = refl
-  due_shown command.OtherAddress = refl
-  due_shown command.Malformed = refl
-  due_shown command.Unknown = refl
+  due_shown (Ok (order.Do w)) = word_shown w
+  due_shown (Ok (order.Set p)) = refl
+  due_shown (Err fault.NoLine) = refl
+  due_shown (Err fault.LongLine) = refl
+  due_shown (Err fault.OtherAddress) = refl
+  due_shown (Err fault.Malformed) = refl
+  due_shown (Err fault.Unknown) = refl
 
 -- ---- it shows a weight to a read alone, which asks for nothing
-module _ (st : State) (x y : Reading) (o : Outcome) where
+module _ (st : State) (x y : Reading) (o : Result (Unit {0}) Refusal) where
   word_weighed : (w : Word) → (word_request w ≡ request.Nothing → x ≡ y) → word_reply w st x o ≡ word_reply w st y o
   word_weighed word.ReadWeight e = ap (λ (r : Reading). reply.Weight (shown_of st.panel.display r)) (e refl)
   word_weighed word.ReadTotal e = refl
@@ -86,15 +88,15 @@ module _ (st : State) (x y : Reading) (o : Outcome) where
   word_weighed word.DayClose e = refl
   word_weighed word.Discharge e = refl
 
-  pub due_weighed : (c : Command) → (request_of c ≡ request.Nothing → x ≡ y) → reply_due c st x o ≡ reply_due c st y o
+  pub due_weighed : (c : Result Order LineFault) → (request_of c ≡ request.Nothing → x ≡ y) → reply_due c st x o ≡ reply_due c st y o
   unfolding reply_due request_of
-  due_weighed (command.Do w) e = word_weighed w e
-  due_weighed (command.Set p) e = refl
-  due_weighed command.NoLine e = refl
-  due_weighed command.LongLine e = refl
-  due_weighed command.OtherAddress e = refl
-  due_weighed command.Malformed e = refl
-  due_weighed command.Unknown e = refl
+  due_weighed (Ok (order.Do w)) e = word_weighed w e
+  due_weighed (Ok (order.Set p)) e = refl
+  due_weighed (Err fault.NoLine) e = refl
+  due_weighed (Err fault.LongLine) e = refl
+  due_weighed (Err fault.OtherAddress) e = refl
+  due_weighed (Err fault.Malformed) e = refl
+  due_weighed (Err fault.Unknown) e = refl
 
 -- ---- the tick with a line: of what it asks, where the reply fits, and else of nothing
 -- what it leaves in its three buffers: `image`, `after` and `answer` are theirs, `number` what it answers, `blank` the answer's bytes before
@@ -104,7 +106,7 @@ pub record Lined (s : Settings) (st : State) (count : ℤ) (contact : Bool) (rec
   pub replied : after ≡ reply_buffer s st count contact receive buffer
   pub shown : answer ≡ answer_buffer (told_number (line_tick_of s st count contact receive buffer).told) (line_tick_of s st count contact receive buffer).length (line_tick_of s st count contact receive buffer).answer blank
 
-module _ (s : Settings) (st : State) (count : ℤ) (contact : Bool) (receive buffer : List ℕ) (c : Command) (q : Request) (x : Weights) (o : Outcome) (wrote : Wrote) (after : List ℕ)
+module _ (s : Settings) (st : State) (count : ℤ) (contact : Bool) (receive buffer : List ℕ) (c : Result Order LineFault) (q : Request) (x : Weights) (o : Result (Unit {0}) Refusal) (wrote : Wrote) (after : List ℕ)
     (ec : c ≡ command_of receive s.address) (er : q ≡ request_of c) where
   abbrev asked : Input
   asked = input_of count contact q
@@ -147,7 +149,7 @@ module _ (s : Settings) (st : State) (count : ℤ) (contact : Bool) (receive buf
             → Lined s st count contact receive buffer number blank image after answer
         lined n e et r =
             let f = fitted s st count contact receive buffer c q tick due wrote after ec er refl refl written bytes n e (told_of c tick.answer.outcome) refl (line_ticked (told_of c tick.answer.outcome) n tick) refl in
-            let same = et ∙ ap (λ (u : Outcome). told_number (told_of c u)) settled ∙ (λ k. told_number (f.0 k).told) in
+            let same = et ∙ ap (λ (u : Result (Unit {0}) Refusal). told_number (told_of c u)) settled ∙ (λ k. told_number (f.0 k).told) in
             record {
               told = same;
               next = r.next ∙ (λ k. image_of (f.0 k).state);
@@ -155,10 +157,10 @@ module _ (s : Settings) (st : State) (count : ℤ) (contact : Bool) (receive buf
               shown = r.shown ∙ (λ k. answer_buffer (same k) (f.0 k).length (f.0 k).answer blank);
             }
 
-        pub lined-short : wrote ≡ Short → number ≡ 14 → Ran s st (unasked_of count contact) outcome.Done number 0 blank image answer
+        pub lined-short : wrote ≡ Short → number ≡ 14 → Ran s st (unasked_of count contact) (Ok tt) number 0 blank image answer
             → Lined s st count contact receive buffer number blank image after answer
         lined-short e et r =
-            let f = short s st count contact receive buffer c q tick due wrote after ec er refl refl written bytes e (line_ticked told.ShortBuffer 0 (tick_of s st (unasked_of count contact))) refl in
+            let f = short s st count contact receive buffer c q tick due wrote after ec er refl refl written bytes e (line_ticked (Err told.ShortBuffer) 0 (tick_of s st (unasked_of count contact))) refl in
             let same = et ∙ (λ k. told_number (f.0 k).told) in
             record {
               told = same;

@@ -1,5 +1,5 @@
 -- The answer of a tick in 64 bytes: docs/IMAGES.md, 'The answer'. One row an output; every byte has one.
-use Rattle.std.specs.Prelude.{ℕ, List, [], ◌∷◌, ◌++◌, Bool, true, false, cond, ltb, Float}
+use Rattle.std.specs.Prelude.{ℕ, List, [], ◌∷◌, ◌++◌, Bool, true, false, cond, ltb, Float, Option, None, Some}
 use Rattle.std.specs.Float.{binary64}
 use Rattle.std.specs.Float.Ieee.{to_bits, ne}
 use Rattle.std.specs.Int.{w32, w64}
@@ -7,8 +7,6 @@ use Rattle.places.specs.Places.{Place, row, put_all, coded, flag_tag}
 use Rattle.types.specs.declared.analog.Analog.{Analog}
 use Rattle.types.specs.declared.analog.Analog.TheVariants as analog
 use Rattle.types.specs.declared.daybook.Book.{Book}
-use Rattle.types.specs.declared.daybook.Closed.{Closed}
-use Rattle.types.specs.declared.daybook.Closed.TheVariants as closed
 use Rattle.types.specs.declared.stages.Gates.{Gates}
 use Rattle.types.specs.declared.machine.Reading.{Reading}
 use Rattle.types.specs.declared.machine.Answer.{Answer}
@@ -45,9 +43,9 @@ signal_numbers a = judgement_number a.judgement ∷ error_number a.error ∷ fla
 unfoldable pub length_byte : ℕ → ℕ
 length_byte n = cond (ltb n 256) n 255
 
-unfoldable pub closed_flag : Closed → Bool
-closed_flag closed.Nothing = false
-closed_flag (closed.Day b) = true
+unfoldable pub closed_flag : Option Book → Bool
+closed_flag None = false
+closed_flag (Some b) = true
 
 abbrev pub part_rows : List Place
 part_rows = row 13 1 ∷ row 14 1 ∷ row 15 1 ∷ []
@@ -63,9 +61,9 @@ abbrev pub gross_numbers : Reading → List ℕ
 gross_numbers x = coded w32 x.gross ∷ coded w32 x.net ∷ []
 
 -- ---- the closed day: opening, closing, refilled, used, unbooked; 0 where there is none
-unfoldable pub closed_book : Closed → Book
-closed_book closed.Nothing = open_book
-closed_book (closed.Day b) = b
+unfoldable pub closed_book : Option Book → Book
+closed_book None = open_book
+closed_book (Some b) = b
 
 abbrev pub day_rows : List Place
 day_rows = row 24 4 ∷ row 28 4 ∷ row 32 8 ∷ row 40 8 ∷ row 48 8 ∷ []

@@ -1,9 +1,9 @@
 -- What the steps of a tick in the buffer of its state hand on from one to the next: what the request that is done tells, and the weights;
 -- step 4, done in two: the requests of the batch, and those beside them; and the answer, which they put in two. No promise of a C call
 -- names these.
-use Rattle.std.specs.Prelude.{ℕ, Bool, cond, List, [], ◌∷◌, ◌++◌}
+use Rattle.std.specs.Prelude.{ℕ, Bool, cond, List, [], ◌∷◌, ◌++◌, Option, None, Some, ℤ}
 use Rattle.places.specs.Places.{Place, row, put_all, flag_tag}
-use Rattle.types.specs.declared.daybook.Closed.{Closed}
+use Rattle.types.specs.declared.daybook.Book.{Book}
 use Rattle.types.specs.declared.machine.Answer.{Answer}
 use Rattle.types.specs.declared.machine.State.{State}
 use Rattle.outline.specs.Stages.{start_sequence, discharge_sequence}
@@ -13,15 +13,13 @@ use Rattle.outline.specs.Kinds.{request_kind}
 use Rattle.outline.specs.Numbers.{stage_number, analog_number}
 use Rattle.board.specs.AnswerImage.{weight_rows, weight_numbers, gate_rows, gate_numbers, signal_rows, signal_numbers, length_byte}
 use Rattle.board.specs.AnswerImage.{closed_flag, gross_rows, gross_numbers, closed_book, day_rows, day_numbers, value_rows, value_numbers}
-use Rattle.types.specs.declared.weight.Raw.{Raw}
-use Rattle.types.specs.declared.weight.Raw.TheVariants as raw
 use Rattle.types.specs.declared.weight.Weights.{Weights}
 use Rattle.types.specs.declared.requests.Request.{Request}
 use Rattle.types.specs.declared.requests.Request.TheVariants as request
 
 -- the raw that was weighed
-unfoldable pub raw_in : Weights → Raw
-raw_in x = cond x.good (raw.Tenths x.raw) raw.Bad
+unfoldable pub raw_in : Weights → Option ℤ
+raw_in x = cond x.good (Some x.raw) None
 
 -- step 6 is passed over
 abbrev pub held_by : Request → Bool
@@ -66,10 +64,10 @@ batch_done st request.Discharge = with_sequence st (discharge_sequence st.sequen
 abbrev pub closed_rows : List Place
 closed_rows = row 14 1 ∷ day_rows
 
-abbrev pub closed_numbers : Closed → List ℕ
+abbrev pub closed_numbers : Option Book → List ℕ
 closed_numbers c = flag_tag (closed_flag c) ∷ day_numbers (closed_book c)
 
-unfoldable pub closed_put : Closed → List ℕ → List ℕ
+unfoldable pub closed_put : Option Book → List ℕ → List ℕ
 closed_put c buffer = put_all closed_rows (closed_numbers c) buffer
 
 -- beside the closed day: the analog value's kind and the reply's length

@@ -1,10 +1,9 @@
 -- Demand 3 for images: "its history is that which led to the image". Statements on any calls, proved in proofs/; `every_call` has them as
 -- its `ensures`.
-use Rattle.std.specs.Prelude.{ℕ, ◌≡◌, Bool, cond, leb, length, take, ℤ}
+use Rattle.std.specs.Prelude.{ℕ, ◌≡◌, Bool, cond, leb, length, take, ℤ, Some}
 use mathlib.Core.List.{List, [], ◌∷◌, foldl}
 use Rattle.types.specs.declared.settings.Given.{Given}
 use Rattle.types.specs.declared.settings.Settings.{Settings}
-use Rattle.types.specs.declared.settings.Opening.TheVariants as opening
 use Rattle.types.specs.declared.machine.State.{State}
 use Rattle.types.specs.declared.machine.Input.{Input}
 use Rattle.settings.specs.Held.{Held}
@@ -64,12 +63,12 @@ CallsAreTicks = (l t : List ℕ) → refusal_by l t ≡ 0 → (cs : List Call) �
 
 -- ---- 3. an open leaves the image of the run that begins, and calls after it that of the run's state, whose history is their ticks
 abbrev pub OpensARun : Type 0
-OpensARun = (g : Given) (s : Settings) → Held g → open_of g ≡ opening.Accepted s → (t : List ℕ) → length t ≡ state_length
+OpensARun = (g : Given) (s : Settings) → Held g → open_of g ≡ Some s → (t : List ℕ) → length t ≡ state_length
     → open_image (given_image g) t ≡ image_of (run_of s start)
 
 -- from the image of any history on: "Putting an older one back goes back to its history"
 abbrev pub CallsAreRuns : Type 0
-CallsAreRuns = (g : Given) (s : Settings) → Held g → open_of g ≡ opening.Accepted s → (h : History Input) (cs : List Call)
+CallsAreRuns = (g : Given) (s : Settings) → Held g → open_of g ≡ Some s → (h : History Input) (cs : List Call)
     → image_run (given_image g) (image_of (run_of s h)) cs ≡ image_of (run_of s (history_of s h cs))
 
 -- ---- A5: what an earlier image grows to is not refused, and holds its state, in which nothing waits; so CallsAreTicks speaks of it
@@ -88,13 +87,13 @@ pub record GrownBack (l e t : List ℕ) (st : State) : Type 0 where
   pub image : grow_image l e t ≡ image_of st
 
 abbrev pub GrowsARun : Type 0
-GrowsARun = (g : Given) (s : Settings) → Held g → open_of g ≡ opening.Accepted s → (h : History Input) → (run_of s h).waiting ≡ none_waiting
+GrowsARun = (g : Given) (s : Settings) → Held g → open_of g ≡ Some s → (h : History Input) → (run_of s h).waiting ≡ none_waiting
     → (t : List ℕ) → length t ≡ state_length
     → GrownBack (given_image g) (take earlier_length (image_of (run_of s h))) t (run_of s h)
 
 -- the same of a run of the program before A6
 abbrev pub GrowsEarlier : Type 0
-GrowsEarlier = (g : Given) (s : Settings) → Held g → open_of g ≡ opening.Accepted s → (is : List Input) →
+GrowsEarlier = (g : Given) (s : Settings) → Held g → open_of g ≡ Some s → (is : List Input) →
     let st = foldl (earlier_tick s) open_state is in
     st.waiting ≡ none_waiting → (t : List ℕ) → length t ≡ state_length → GrownBack (given_image g) (take earlier_length (image_of st)) t st
 

@@ -1,7 +1,6 @@
 // The answer of a tick, output by output at its place. The table is that of specs/AnswerImage.antt.
-ghost use Rattle.std.specs.Prelude.{◌≡◌};
+ghost use Rattle.std.specs.Prelude.{◌≡◌, None, Some};
 ghost use Rattle.places.specs.Places.{put_all};
-ghost use Rattle.types.specs.declared.daybook.Closed.TheVariants as Closed;
 ghost use Rattle.board.specs.AnswerImage.{weight_rows, weight_numbers, gate_rows, gate_numbers, signal_rows, signal_numbers, length_byte};
 ghost use Rattle.board.specs.AnswerImage.{gross_rows, gross_numbers, float_bits, analog_bits, value_rows, value_numbers};
 ghost use Rattle.board.specs.InPlace.{beside_rows, beside_numbers, closed_put, outputs_put};
@@ -69,7 +68,7 @@ fn put_gross(s: &mut [u8], x: Reading)
 
 // That no day was closed: 0 in each of its places.
 pub(crate) fn put_none(s: &mut [u8])
-    ensures { s.new ≡ closed_put Closed.Nothing s.old }
+    ensures { s.new ≡ closed_put None s.old }
 {
     places::put_flag(s, 14, false);
     places::put_i32(s, 24, 0);
@@ -81,7 +80,7 @@ pub(crate) fn put_none(s: &mut [u8])
 
 // That the day b was closed.
 pub(crate) fn put_day(s: &mut [u8], b: Book)
-    ensures { s.new ≡ closed_put (Closed.Day b) s.old }
+    ensures { s.new ≡ closed_put (Some b) s.old }
 {
     places::put_flag(s, 14, true);
     places::put_i32(s, 24, b.opening);

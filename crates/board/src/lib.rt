@@ -37,8 +37,8 @@ use images::state::{bytes_refusal, earlier_refusal};
 use numbers::{NO_REQUEST, SHORT_BUFFER, WRONG_LENGTH, outcome_number, told_number};
 use replies::Wrote;
 use replies::due::{request_of, told_of};
-use types::requests::{Outcome, Request};
-use types::settings::{Opening, Settings};
+use types::requests::Request;
+use types::settings::Settings;
 
 mod answer;
 mod asked;
@@ -79,7 +79,7 @@ fn judged(settings: &[u8], state: &[u8]) -> u8
     images_refusal(given_refusal(settings), bytes_refusal(state))
 }
 
-fn opened(settings: &[u8]) -> Opening
+fn opened(settings: &[u8]) -> Option<Settings>
     ensures { length settings.now ≡ given_length → result ≡ open_of (given_by settings.now) }
 {
     open(given_at(settings))
@@ -105,8 +105,8 @@ pub fn pressgully_open(settings: &[u8], state: &mut [u8]) -> u32
         return why as u32;
     }
     match opened(settings) {
-        Opening::Refused => return SETTINGS_REFUSED,
-        Opening::Accepted(_) => {
+        None => return SETTINGS_REFUSED,
+        Some(_) => {
             // every byte of the opening state's image is 0
             places::clear(state);
             return 0;
@@ -151,8 +151,8 @@ pub fn pressgully_grow(settings: &[u8], earlier: &[u8], state: &mut [u8]) -> u32
         return IMPOSSIBLE;
     }
     match opened(settings) {
-        Opening::Refused => return SETTINGS_REFUSED,
-        Opening::Accepted(_) => {
+        None => return SETTINGS_REFUSED,
+        Some(_) => {
             // in the opening state, all bytes 0, nothing waits
             places::clear(state);
             put_weighed(earlier, state);
@@ -163,7 +163,7 @@ pub fn pressgully_grow(settings: &[u8], earlier: &[u8], state: &mut [u8]) -> u32
 }
 
 // The number of a tick's answer; 13 where it was asked by a number that is no request.
-fn told_by(known: bool, outcome: Outcome) -> u8
+fn told_by(known: bool, outcome: Result<(), Refusal>) -> u8
     ensures { result ≡ cond known (outcome_number outcome) 13 }
 {
     if known {
@@ -236,8 +236,8 @@ pub fn pressgully_tick(
         return IMPOSSIBLE;
     }
     match opened(settings) {
-        Opening::Refused => return SETTINGS_REFUSED,
-        Opening::Accepted(s) => {
+        None => return SETTINGS_REFUSED,
+        Some(s) => {
             let known = is_request(request, points);
             let asked = request_by(request, points);
             return run_tick(s, count, contact, asked, known, state, answer);
@@ -278,7 +278,7 @@ fn run_line(
     let mut x = steps::enter(s, count, contact, state);
     let outcome = steps::ruled(s, x, request, state);
     match steps::reply(s, command, outcome, x, state, reply) {
-        Wrote::Bytes(length) => {
+        Ok(length) => {
             // 4. The line's request.
             let done = requests::granted(outcome, request);
             steps::settle(done, x, state, answer);
@@ -292,12 +292,12 @@ fn run_line(
             steps::answer(s, outcome, n, length, x, state, answer);
             return n as u32;
         }
-        Wrote::Short => {
+        Err(ShortBuffer) => {
             // The reply does not fit: a tick without a request.
             put_none(answer);
             steps::track(s, false, x, state);
             steps::step(s, false, x, state);
-            steps::answer(s, Outcome::Done, SHORT_BUFFER, 0, x, state, answer);
+            steps::answer(s, Ok(()), SHORT_BUFFER, 0, x, state, answer);
             return SHORT;
         }
     }
@@ -333,8 +333,8 @@ pub fn pressgully_line(
         return IMPOSSIBLE;
     }
     match opened(settings) {
-        Opening::Refused => return SETTINGS_REFUSED,
-        Opening::Accepted(s) => {
+        None => return SETTINGS_REFUSED,
+        Some(s) => {
             return run_line(s, count, contact, receive, reply, state, answer);
         }
     }
@@ -374,8 +374,8 @@ pub fn pressgully_block(settings: &[u8], state: &mut [u8], counts: &[i32], conta
         return IMPOSSIBLE;
     }
     match opened(settings) {
-        Opening::Refused => return SETTINGS_REFUSED,
-        Opening::Accepted(s) => return run_block(s, counts, contact, state),
+        None => return SETTINGS_REFUSED,
+        Some(s) => return run_block(s, counts, contact, state),
     }
 }
 

@@ -2,7 +2,7 @@
 // writes those that it makes, so that there is a state nowhere else: a tick takes little of a board's stack. Each step but
 // the reply is called by two C calls or more, so that the compiler draws none into its caller: each gives its frame back before the next
 // begins (docs/COST.md). What each promises is of the state that the buffer holds.
-ghost use Rattle.std.specs.Prelude.{◌≡◌, true, false};
+ghost use Rattle.std.specs.Prelude.{◌≡◌, true, false, None, Some};
 ghost use Rattle.types.specs.declared.machine.State.{State};
 ghost use Rattle.outline.specs.Weight.{raw_of};
 ghost use Rattle.outline.specs.DayBook.{closed_of};
@@ -26,13 +26,12 @@ use images::parts::{
 };
 use replies::Wrote;
 use setpoints::waiting::none_waiting;
-use types::daybook::Closed;
-use types::lines::Command;
+use types::lines::{LineFault, Order};
 use types::machine::State;
-use types::requests::{Outcome, Request};
+use types::requests::Request;
 use types::settings::Settings;
-use types::stages::{Sequence, Setpoints, Write};
-use types::weight::{Display, Panel, Raw, Stability, Weighing, Weights};
+use types::stages::{Sequence, Setpoints};
+use types::weight::{Display, Panel, Stability, Weighing, Weights};
 
 // 1. to 3.: count to raw, day book, weights. The stability's change of raw is from the last good raw as it was before this tick.
 pub(crate) fn enter(s: Settings, count: i32, contact: bool, state: &mut [u8]) -> Weights
@@ -52,13 +51,13 @@ pub(crate) fn enter(s: Settings, count: i32, contact: bool, state: &mut [u8]) ->
 }
 
 // The raw that was weighed.
-fn raw_again(x: Weights) -> Raw
+fn raw_again(x: Weights) -> Option<i32>
     ensures { result ≡ raw_in x }
 {
     if x.good {
-        return Raw::Tenths(x.raw);
+        return Some(x.raw);
     }
-    Raw::Bad
+    None
 }
 
 // After 4., the weights x again, with the zero and the tare that stand in the buffer now.
@@ -71,7 +70,7 @@ pub(crate) fn again(s: Settings, x: Weights, state: &[u8]) -> Weights
 }
 
 // 4. The ruling: accepted, or refused with its number.
-pub(crate) fn ruled(s: Settings, x: Weights, request: Request, state: &[u8]) -> Outcome
+pub(crate) fn ruled(s: Settings, x: Weights, request: Request, state: &[u8]) -> Result<(), Refusal>
     ensures { Tells state.now (λ (st : State). result ≡ ruling_of s st x request) }
 {
     let batching = s.batching;
@@ -85,7 +84,7 @@ pub(crate) fn ruled(s: Settings, x: Weights, request: Request, state: &[u8]) -> 
 fn close(state: &mut [u8], answer: &mut [u8])
     ensures state { Turns state.old state.new (λ (st : State). with_book st (closed_of st.book)) }
     ensures day { Tells state.old (λ (st : State).
-        answer.new ≡ closed_put (Closed.Day st.book) answer.old) }
+        answer.new ≡ closed_put (Some st.book) answer.old) }
 {
     let day = book_at(state);
     put_day(answer, day);
@@ -104,8 +103,8 @@ fn show(display: Display, state: &mut [u8])
 // looked at.
 pub(crate) fn reply(
     s: Settings,
-    command: Command,
-    outcome: Outcome,
+    command: Result<Order, LineFault>,
+    outcome: Result<(), Refusal>,
     x: Weights,
     state: &[u8],
     reply: &mut [u8],
@@ -165,8 +164,8 @@ fn bring_in(state: &mut [u8])
     let waiting = waiting_at(state);
     let write = waiting.write;
     match write {
-        Write::Nothing => return,
-        Write::Points(p) => {
+        None => return,
+        Some(p) => {
             put_setpoints(state, p);
             return clear_waiting(state);
         }
@@ -340,7 +339,7 @@ pub(crate) fn step(s: Settings, held: bool, x: Weights, state: &mut [u8])
 // answer already.
 pub(crate) fn answer(
     s: Settings,
-    outcome: Outcome,
+    outcome: Result<(), Refusal>,
     told: u8,
     length: usize,
     x: Weights,
@@ -348,7 +347,7 @@ pub(crate) fn answer(
     answer: &mut [u8],
 )
     ensures { Tells state.now (λ (st : State).
-        answer.new ≡ outputs_put told length (outputs_of s (answered_of outcome Closed.Nothing st) x st) answer.old) }
+        answer.new ≡ outputs_put told length (outputs_of s (answered_of outcome None st) x st) answer.old) }
 {
     let panel = panel_at(state);
     let setpoints = setpoints_at(state);
@@ -371,6 +370,6 @@ pub(crate) fn answer(
         sequence,
         totals: totals::clear_totals(),
     };
-    let a = controller::outputs::outputs(s, outcome, Closed::Nothing, x, shown);
+    let a = controller::outputs::outputs(s, outcome, None, x, shown);
     put_outputs(answer, told, length, a);
 }

@@ -3,7 +3,7 @@ ghost use Rattle.std.specs.Prelude.{◌≡◌, cond, eqb, length};
 ghost use Rattle.outline.specs.Lines.{set_of, decode_of, body_of};
 
 use crate::letters::letters_of;
-use types::lines::{Command, Fields, Letters};
+use types::lines::{Letters, LineFault, Order};
 
 // The two letters of a command; a command that is no SS is no longer.
 const LETTERS_LENGTH: u16 = 2;
@@ -12,49 +12,49 @@ const LETTERS_LENGTH: u16 = 2;
 const SET_LENGTH: usize = 44;
 
 // Seven numbers are setpoints; whether they may be set is not asked here.
-fn set_of(read: Fields) -> Command
+fn set_of(read: Option<Setpoints>) -> Result<Order, LineFault>
     ensures { result ≡ set_of read }
 {
     match read {
-        Fields::Points(p) => Command::Set(p),
-        Fields::Wrong => Command::Malformed,
+        Some(p) => Ok(Order::Set(p)),
+        None => Err(LineFault::Malformed),
     }
 }
 
 // A known command in a line of the length that is due; in any other it is malformed, and not unknown.
-fn sized(line: &[u8], due: usize, known: Command) -> Command
-    ensures { result ≡ cond (eqb (length line.now) due) known Command.Malformed }
+fn sized(line: &[u8], due: usize, known: Result<Order, LineFault>) -> Result<Order, LineFault>
+    ensures { result ≡ cond (eqb (length line.now) due) known (Err LineFault.Malformed) }
 {
     if line.len() == due {
         known
     } else {
-        Command::Malformed
+        Err(LineFault::Malformed)
     }
 }
 
 // What the letters at a place ask for. Letters that name no command are unknown at any length.
-fn decode(letters: Letters, line: &[u8], at: u8) -> Command
+fn decode(letters: Option<Letters>, line: &[u8], at: u8) -> Result<Order, LineFault>
     ensures { result ≡ decode_of letters line.now at }
 {
     let end = at as u16 + LETTERS_LENGTH;
     match letters {
-        Letters::One(w) => sized(line, end as usize, Command::Do(w)),
-        Letters::Set => sized(
+        Some(Letters::One(w)) => sized(line, end as usize, Ok(Order::Do(w))),
+        Some(Letters::Set) => sized(
             line,
             at as usize + SET_LENGTH,
             set_of(crate::fields::fields(line, end)),
         ),
-        Letters::Other => Command::Unknown,
+        None => Err(LineFault::Unknown),
     }
 }
 
 // What stands after the prefix. Fewer than two bytes are no letters, so they are malformed and not unknown.
-pub(crate) fn body(line: &[u8], at: u8) -> Command
+pub(crate) fn body(line: &[u8], at: u8) -> Result<Order, LineFault>
     ensures { result ≡ body_of line.now at }
 {
     let end = at as u16 + LETTERS_LENGTH;
     if line.len() < end as usize {
-        return Command::Malformed;
+        return Err(LineFault::Malformed);
     }
     let p = at as usize;
     decode(

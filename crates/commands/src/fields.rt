@@ -2,14 +2,14 @@
 ghost use Rattle.std.specs.Prelude.{◌≡◌, ◌≤◌, length};
 ghost use Rattle.outline.specs.Lines.{number_from, field_of, seven_of, fields_of};
 
-use types::lines::{Digits, Fields};
+
 use types::stages::Setpoints;
 
 // The digits of a field. So many always fit a number of 32 bits.
 const FIELD_WIDTH: usize = 6;
 
 // The one reader of digits. It is lent a field and knows nothing of the line around it.
-fn number_of(field: &[u8]) -> Digits
+fn number_of(field: &[u8]) -> Option<u32>
     requires { length field.now ≤ 6 }
     ensures { result ≡ number_from 0 field.now }
 {
@@ -20,62 +20,62 @@ fn number_of(field: &[u8]) -> Digits
         if crate::digits::is_digit(b) {
             v = v * 10 + ((b - 48) as u32);
         } else {
-            return Digits::NotDigits;
+            return None;
         }
         i += 1;
     }
-    Digits::Number(v)
+    Some(v)
 }
 
 // The field at a place of the line; no number where the line ends within it. The test subtracts, since a sum could wrap.
-fn field(line: &[u8], at: usize) -> Digits
+fn field(line: &[u8], at: usize) -> Option<u32>
     ensures { result ≡ field_of line.now at }
 {
     if line.len() < FIELD_WIDTH {
-        return Digits::NotDigits;
+        return None;
     }
     if at <= line.len() - FIELD_WIDTH {
         let end = at + FIELD_WIDTH;
         number_of(&line[at..end])
     } else {
-        Digits::NotDigits
+        None
     }
 }
 
 // One field that is no number spoils all seven.
 fn seven(
-    f: Digits,
-    ff: Digits,
-    p: Digits,
-    op: Digits,
-    over: Digits,
-    under: Digits,
-    near: Digits,
-) -> Fields
+    f: Option<u32>,
+    ff: Option<u32>,
+    p: Option<u32>,
+    op: Option<u32>,
+    over: Option<u32>,
+    under: Option<u32>,
+    near: Option<u32>,
+) -> Option<Setpoints>
     ensures { result ≡ seven_of f ff p op over under near }
 {
-    let Digits::Number(f) = f else {
-        return Fields::Wrong;
+    let Some(f) = f else {
+        return None;
     };
-    let Digits::Number(ff) = ff else {
-        return Fields::Wrong;
+    let Some(ff) = ff else {
+        return None;
     };
-    let Digits::Number(p) = p else {
-        return Fields::Wrong;
+    let Some(p) = p else {
+        return None;
     };
-    let Digits::Number(op) = op else {
-        return Fields::Wrong;
+    let Some(op) = op else {
+        return None;
     };
-    let Digits::Number(over) = over else {
-        return Fields::Wrong;
+    let Some(over) = over else {
+        return None;
     };
-    let Digits::Number(under) = under else {
-        return Fields::Wrong;
+    let Some(under) = under else {
+        return None;
     };
-    let Digits::Number(near) = near else {
-        return Fields::Wrong;
+    let Some(near) = near else {
+        return None;
     };
-    Fields::Points(Setpoints {
+    Some(Setpoints {
         target: f,
         fall: ff,
         preliminary: p,
@@ -87,7 +87,7 @@ fn seven(
 }
 
 // The seven fields from a place on, each right behind the one before.
-pub(crate) fn fields(line: &[u8], at: u16) -> Fields
+pub(crate) fn fields(line: &[u8], at: u16) -> Option<Setpoints>
     ensures { result ≡ fields_of line.now at }
 {
     let a = at as usize;

@@ -45,54 +45,54 @@ pub fn letters_for(w: Word) -> u16
 }
 
 // The command that a pair of letters names.
-pub(crate) fn letters_of(a: u8, b: u8) -> Letters
+pub(crate) fn letters_of(a: u8, b: u8) -> Option<Letters>
     ensures { result ≡ letters_of a b }
 {
     let pair = (a as u16) * 256 + (b as u16);
     if pair == letters_for(Word::ReadWeight) {
-        return Letters::One(Word::ReadWeight);
+        return Some(Letters::One(Word::ReadWeight));
     }
     if pair == letters_for(Word::ReadTotal) {
-        return Letters::One(Word::ReadTotal);
+        return Some(Letters::One(Word::ReadTotal));
     }
     if pair == letters_for(Word::ReadSetpoints) {
-        return Letters::One(Word::ReadSetpoints);
+        return Some(Letters::One(Word::ReadSetpoints));
     }
     if pair == letters_for(Word::Zero) {
-        return Letters::One(Word::Zero);
+        return Some(Letters::One(Word::Zero));
     }
     if pair == letters_for(Word::Tare) {
-        return Letters::One(Word::Tare);
+        return Some(Letters::One(Word::Tare));
     }
     if pair == letters_for(Word::TareClear) {
-        return Letters::One(Word::TareClear);
+        return Some(Letters::One(Word::TareClear));
     }
     if pair == letters_for(Word::ShowGross) {
-        return Letters::One(Word::ShowGross);
+        return Some(Letters::One(Word::ShowGross));
     }
     if pair == letters_for(Word::ShowNet) {
-        return Letters::One(Word::ShowNet);
+        return Some(Letters::One(Word::ShowNet));
     }
     if pair == letters_for(Word::Start) {
-        return Letters::One(Word::Start);
+        return Some(Letters::One(Word::Start));
     }
     if pair == letters_for(Word::Stop) {
-        return Letters::One(Word::Stop);
+        return Some(Letters::One(Word::Stop));
     }
     if pair == letters_for(Word::TotalClear) {
-        return Letters::One(Word::TotalClear);
+        return Some(Letters::One(Word::TotalClear));
     }
     if pair == letters_for(Word::Undo) {
-        return Letters::One(Word::Undo);
+        return Some(Letters::One(Word::Undo));
     }
     if pair == letters_for(Word::DayClose) {
-        return Letters::One(Word::DayClose);
+        return Some(Letters::One(Word::DayClose));
     }
     if pair == letters_for(Word::Discharge) {
-        return Letters::One(Word::Discharge);
+        return Some(Letters::One(Word::Discharge));
     }
     if pair == SET_LETTERS {
-        return Letters::Set;
+        return Some(Letters::Set);
     }
-    Letters::Other
+    None
 }

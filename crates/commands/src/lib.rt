@@ -4,7 +4,7 @@
 ghost use Rattle.std.specs.Prelude.{◌≡◌};
 ghost use Rattle.outline.specs.Lines.{is_prefixed, spoken_of, command_of};
 
-use types::lines::{Command, LineKind};
+use types::lines::{LineFault, LineKind, Order};
 
 mod body;
 pub mod digits;
@@ -33,24 +33,24 @@ fn is_prefixed(line: &[u8], address: u8) -> bool
 }
 
 // The prefix is looked at first: a line to another address is not read any further.
-fn spoken(line: &[u8], address: u8) -> Command
+fn spoken(line: &[u8], address: u8) -> Result<Order, LineFault>
     ensures { result ≡ spoken_of line.now address }
 {
     if is_prefixed(line, address) {
         body::body(line, crate::prefix::prefix_length(address))
     } else {
-        Command::OtherAddress
+        Err(LineFault::OtherAddress)
     }
 }
 
 // The tests for no line and for a long line come before that of the address. An empty line is read as any other.
-pub fn command_of(buffer: &[u8], address: u8) -> Command
+pub fn command_of(buffer: &[u8], address: u8) -> Result<Order, LineFault>
     ensures { result ≡ command_of buffer.now address }
 {
     let command = spoken(crate::line::line_of(buffer), address);
     match crate::line::kind_of(buffer) {
-        LineKind::NoLine => Command::NoLine,
-        LineKind::Long => Command::LongLine,
+        LineKind::NoLine => Err(LineFault::NoLine),
+        LineKind::Long => Err(LineFault::LongLine),
         LineKind::Empty => command,
         LineKind::Text => command,
     }

@@ -4,7 +4,7 @@ ghost use Rattle.outline.specs.Lines.{is_cr_lf, line_end_of, line_of, kind_of};
 ghost use Rattle.outline.specs.Numbers.{kind_number};
 ghost use Rattle.outline.specs.Answers.{kind_due};
 
-use types::lines::{LineEnd, LineKind};
+use types::lines::{LineKind, NoEnd};
 
 // The most bytes that a line may have before its CR LF.
 const LINE_LIMIT: usize = 64;
@@ -23,21 +23,21 @@ fn is_cr_lf(a: u8, b: u8) -> bool
 }
 
 // The first CR LF decides: one that stands later is no end of this line, even where the first comes too late.
-fn line_end(buf: &[u8]) -> LineEnd
+fn line_end(buf: &[u8]) -> Result<usize, NoEnd>
     ensures { result ≡ line_end_of buf.now }
 {
     let mut i: usize = 0;
     while i < buf.len() {
         if is_cr_lf(byte_at(buf, i), byte_at(buf, i + 1)) {
             if i <= LINE_LIMIT {
-                return LineEnd::At(i);
+                return Ok(i);
             } else {
-                return LineEnd::Beyond;
+                return Err(NoEnd::Beyond);
             }
         }
         i += 1;
     }
-    LineEnd::Missing
+    Err(NoEnd::Missing)
 }
 
 // The line is a part of the caller's own buffer, not a copy. Where there is none, or a long one, it is the empty part at the start.
@@ -46,9 +46,9 @@ pub fn line_of(buf: &[u8]) -> &[u8]
     ensures place { result.ref_ptr ≡ buf.entry.ref_ptr }
 {
     match line_end(buf) {
-        LineEnd::At(n) => &buf[..n],
-        LineEnd::Beyond => &buf[..0],
-        LineEnd::Missing => &buf[..0],
+        Ok(n) => &buf[..n],
+        Err(NoEnd::Beyond) => &buf[..0],
+        Err(NoEnd::Missing) => &buf[..0],
     }
 }
 
@@ -58,14 +58,14 @@ pub fn kind_of(buf: &[u8]) -> LineKind
     ensures number { kind_number result ≡ kind_due buf.now }
 {
     match line_end(buf) {
-        LineEnd::At(n) => {
+        Ok(n) => {
             if n == 0 {
                 LineKind::Empty
             } else {
                 LineKind::Text
             }
         }
-        LineEnd::Beyond => LineKind::Long,
-        LineEnd::Missing => LineKind::NoLine,
+        Err(NoEnd::Beyond) => LineKind::Long,
+        Err(NoEnd::Missing) => LineKind::NoLine,
     }
 }

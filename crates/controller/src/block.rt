@@ -4,7 +4,7 @@ ghost use Rattle.outline.specs.Tick.{block_of};
 ghost use Rattle.outline.specs.Numbers.{block_number};
 ghost use Rattle.outline.specs.Answers.{block_due};
 
-use types::machine::{BlockAnswer, Blocked, State};
+use types::machine::{BlockRefusal, Blocked, State};
 use types::settings::Settings;
 
 // The counts of one block.
@@ -18,7 +18,7 @@ pub fn run_block(s: Settings, mut st: State, counts: &[i32], contact: bool) -> B
 {
     if BLOCK_LIMIT < counts.len() {
         return Blocked {
-            answer: BlockAnswer::TooLong,
+            answer: Err(BlockRefusal::TooLong),
             state: st,
         };
     }
@@ -59,7 +59,7 @@ pub fn run_block(s: Settings, mut st: State, counts: &[i32], contact: bool) -> B
         i += 1;
     }
     Blocked {
-        answer: BlockAnswer::Run,
+        answer: Ok(()),
         state: st,
     }
 }

@@ -9,7 +9,6 @@ ghost use Rattle.outline.specs.Numbers.{outcome_number};
 ghost use Rattle.outline.specs.Answers.{tick_due};
 
 use crate::outputs::outputs;
-use types::daybook::Closed;
 use types::machine::{Input, State, Ticked};
 use types::requests::Request;
 use types::settings::Settings;
@@ -40,7 +39,7 @@ pub fn tick(s: Settings, mut st: State, i: Input) -> Ticked
     let done = requests::granted(outcome, request);
     let mut held = false;
     let mut keyed = false;
-    let mut closed = Closed::Nothing;
+    let mut closed = None;
     match done {
         Request::Nothing => {}
         Request::Zero => {
@@ -97,7 +96,7 @@ pub fn tick(s: Settings, mut st: State, i: Input) -> Ticked
         }
         Request::DayClose => {
             let day = st.book;
-            closed = Closed::Day(day);
+            closed = Some(day);
             st.book = daybook::closed_book(day);
         }
         Request::Discharge => {

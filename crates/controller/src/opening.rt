@@ -6,10 +6,10 @@ ghost use Rattle.outline.specs.Numbers.{opening_number};
 ghost use Rattle.outline.specs.Answers.{opening_due};
 
 use types::machine::State;
-use types::settings::{Given, Opening, Settings};
+use types::settings::{Given, Settings};
 use types::weight::{Display, Panel, Stability, Weighing};
 
-pub fn open(g: Given) -> Opening
+pub fn open(g: Given) -> Option<Settings>
     ensures opened { result ≡ open_of g }
     ensures number { opening_number result ≡ opening_due g }
 {

@@ -3,9 +3,7 @@ ghost use Rattle.std.specs.Prelude.{◌≡◌};
 ghost use Rattle.outline.specs.Tick.{reading_of, outputs_of};
 ghost use Rattle.outline.specs.Steps.{answered_of};
 
-use types::daybook::Closed;
 use types::machine::{Answer, Reading, State};
-use types::requests::Outcome;
 use types::settings::Settings;
 use types::weight::Weights;
 
@@ -22,7 +20,7 @@ pub fn reading(x: Weights) -> Reading
 }
 
 // Every output; `st` is the state after step 6, which leaves the display as step 4 did.
-pub fn outputs(s: Settings, outcome: Outcome, closed: Closed, x: Weights, st: State) -> Answer
+pub fn outputs(s: Settings, outcome: Result<(), Refusal>, closed: Option<Book>, x: Weights, st: State) -> Answer
     ensures { result ≡ outputs_of s (answered_of outcome closed st) x st }
 {
     let batching = s.batching;

@@ -4,9 +4,7 @@ ghost use Rattle.outline.specs.Tick.{tick_of, unasked_of};
 ghost use Rattle.outline.specs.Numbers.{outcome_number};
 
 use crate::outputs::outputs;
-use types::daybook::Closed;
 use types::machine::{State, Ticked};
-use types::requests::Outcome;
 use types::settings::Settings;
 
 // Step 4 leaves the state as it is, and step 3's weights serve to the end.
@@ -52,6 +50,6 @@ pub fn unasked_tick(s: Settings, mut st: State, count: i32, contact: bool) -> Ti
     }
     Ticked {
         state: st,
-        answer: outputs(s, Outcome::Done, Closed::Nothing, x, st),
+        answer: outputs(s, Ok(()), None, x, st),
     }
 }

@@ -1,11 +1,10 @@
 // The day book. It is given raw and the refill contact and nothing else.
 #![tactic(auto)]
 
-ghost use Rattle.std.specs.Prelude.{◌≡◌, ◌-ℤ◌};
+ghost use Rattle.std.specs.Prelude.{◌≡◌, ◌-ℤ◌, Some};
 ghost use Rattle.outline.specs.DayBook.{open_book, booked_of, in_day, day_count, later_good, book_of, closed_of};
 
 use types::daybook::Book;
-use types::weight::Raw;
 
 // The ticks of a day that are booked.
 const DAY_TICKS: u32 = 8_640_000;
@@ -83,7 +82,7 @@ fn later_good(mut b: Book, raw: i32, contact: bool) -> Book
 
 // Step 2 at a good tick.
 fn good_tick(mut b: Book, raw: i32, contact: bool) -> Book
-    ensures { result ≡ book_of b (Raw.Tenths raw) contact }
+    ensures { result ≡ book_of b (Some raw) contact }
 {
     if b.begun {
         return later_good(b, raw, contact);
@@ -98,16 +97,16 @@ fn good_tick(mut b: Book, raw: i32, contact: bool) -> Book
 }
 
 // Step 2.
-pub fn book_tick(mut b: Book, raw: Raw, contact: bool) -> Book
+pub fn book_tick(mut b: Book, raw: Option<i32>, contact: bool) -> Book
     ensures { result ≡ book_of b raw contact }
 {
     match raw {
-        Raw::Bad => {
+        None => {
             let ticks = counted(b);
             b.ticks = ticks;
             b
         }
-        Raw::Tenths(t) => good_tick(b, t, contact),
+        Some(t) => good_tick(b, t, contact),
     }
 }
 

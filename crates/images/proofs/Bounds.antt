@@ -1,4 +1,5 @@
 -- What accepted settings bound, and so a state in range under them: its numbers fit their machine types. Assumes nothing.
+use Rattle.std.specs.Prelude.{Option, None, Some, ℤ, ℕ}
 use Prim.Native.Nat.{ℕ, ◌+◌, ◌^◌, ◌≤◌, ◌<◌}
 use native.Mathlib.Nat as N
 use native.Mathlib.Omega.{arith}
@@ -16,12 +17,8 @@ use Rattle.types.specs.declared.settings.Settings.{Settings}
 use Rattle.types.specs.declared.daybook.Book.{Book}
 use Rattle.types.specs.declared.weight.Weighing.{Weighing}
 use Rattle.types.specs.declared.stages.Setpoints.{Setpoints}
-use Rattle.types.specs.declared.stages.Write.{Write}
-use Rattle.types.specs.declared.stages.Write.TheVariants as write
 use Rattle.types.specs.declared.stages.Stage.{Stage}
 use Rattle.types.specs.declared.stages.Stage.TheVariants.{Idle, StartDelay, LargeDisable, LargeFlow, MediumDisable, MediumFlow, SmallDisable, SmallFlow, JudgeDelay, JudgeWait, DischargeStart, Discharge, DischargeEnd}
-use Rattle.types.specs.declared.stages.Batch.{Batch}
-use Rattle.types.specs.declared.stages.Batch.TheVariants as batch
 use Rattle.types.specs.declared.stages.Sequence.{Sequence}
 use Rattle.types.specs.declared.stages.Totals.{Totals}
 use Rattle.types.specs.declared.machine.State.{State}
@@ -126,10 +123,10 @@ setpoints_held s k = record {
 }
 
 -- what waits keeps the same rules; where nothing does, all are 0
-waiting_held : (s : Settings) (w : Write) → write_fits s.batching.mode w ≡ true → HeldSetpoints (write_points w)
+waiting_held : (s : Settings) (w : Option Setpoints) → write_fits s.batching.mode w ≡ true → HeldSetpoints (write_points w)
 unfolding write_points
-waiting_held s write.Nothing h = none_held
-waiting_held s (write.Points p) h = setpoints_held s ((setpoint_law s.batching.mode p).0 h)
+waiting_held s None h = none_held
+waiting_held s (Some p) h = setpoints_held s ((setpoint_law s.batching.mode p).0 h)
 
 timer_held : (b : Batching) → Delays b → (g : Stage) → TimerRange b g → stage_timer g < 2 ^ 16
 unfolding stage_timer
@@ -161,10 +158,10 @@ sequence_held b q d r = record {
       r.unclocked;
 }
 
-back_held : (t : Totals) (b : Batch) → BackRange t b → back_weight b ≤ t.total
+back_held : (t : Totals) (b : Option ℕ) → BackRange t b → back_weight b ≤ t.total
 unfolding back_weight
-back_held t batch.Nothing h = omega arith
-back_held t (batch.Weight v) h = h.0
+back_held t None h = omega arith
+back_held t (Some v) h = h.0
 
 totals_held : (t : Totals) → TotalsRange t → HeldTotals t
 totals_held t r = record {
@@ -182,7 +179,7 @@ range_held s a st r =
       run = omega (arith, r.stability.run, t.steadiness);
       weighing = weighing_held s st.weighing (bounded s a) t r.weighing;
       setpoints = setpoints_held s ((setpoint_law s.batching.mode st.setpoints).0 r.setpoints);
-      waiting = waiting_held s st.waiting.write r.waiting;
+      waiting = waiting_held s st.waiting r.waiting;
       sequence = sequence_held s.batching st.sequence t.batching r.sequence;
       totals = totals_held st.totals r.totals;
     }

@@ -1,4 +1,5 @@
 -- A buffer of an image's own length, one of an earlier image's, and one of any other. Assumes nothing.
+use Rattle.std.specs.Prelude.{Option, ℕ}
 use Prim.Native.Nat.{ℕ, ◌+◌, ◌≤◌, ◌<◌}
 use native.Mathlib.Omega.{arith}
 use mathlib.Core.Path.{◌≡◌, refl, sym, ap, ◌∙◌}
@@ -8,7 +9,7 @@ use mathlib.Core.Logic.{◌⊎◌, inl, inr}
 use lib.Dec.{eqb}
 use lib.ListN.{length, replicate, length-append}
 use borrow.Author.Tests.{eqb-true, eq-eqb, ne_eqb, le-leb, lt-leb}
-use Rattle.types.specs.declared.stages.Waiting.{Waiting}
+use Rattle.types.specs.declared.stages.Setpoints.{Setpoints}
 use Rattle.types.specs.declared.machine.State.{State}
 use Rattle.outline.specs.Settings.{settings_of}
 use Rattle.outline.proofs.Parts.{clash}
@@ -85,7 +86,7 @@ module _ (l : List ℕ) (k : is_image (length l) ≡ true) where
   pub part_here : {A : Type 0} (f : State → A) {r : A} → r ≡ f (state_at (bytes_from l)) → r ≡ f (state_at l)
   part_here f e = e ∙ ap (λ (b : List ℕ). f (state_at b)) (of_long l long)
 
-  pub waiting_here : {w : Waiting} → w ≡ (state_at (bytes_of state_length l)).waiting → w ≡ (state_at l).waiting
+  pub waiting_here : {w : Option Setpoints} → w ≡ (state_at (bytes_of state_length l)).waiting → w ≡ (state_at l).waiting
   waiting_here {w} e = e ∙ go (either_length (length l) k)
     where
       go : (length l ≡ state_length) ⊎ (length l ≡ earlier_length) → (state_at (bytes_of state_length l)).waiting ≡ (state_at l).waiting

@@ -1,4 +1,5 @@
 -- `possible` is the decision of the ranges and the balance: part by part, what is in range passes, and what passes is in range. Assumes nothing.
+use Rattle.std.specs.Prelude.{Option, None, Some, ℤ, ℕ}
 use Prim.Native.Nat.{ℕ, ◌+◌, ◌*◌, ◌/◌, ◌≤◌, max}
 use native.Mathlib.Nat.{le-div_iff_mul-le}
 use native.Mathlib.Omega.{arith}
@@ -29,12 +30,7 @@ use Rattle.types.specs.declared.stages.SequenceError.TheVariants as error
 use Rattle.types.specs.declared.stages.Judgement.{Judgement}
 use Rattle.types.specs.declared.stages.Judgement.TheVariants as judgement
 use Rattle.types.specs.declared.stages.Sequence.{Sequence}
-use Rattle.types.specs.declared.stages.Batch.{Batch}
-use Rattle.types.specs.declared.stages.Batch.TheVariants as batch
 use Rattle.types.specs.declared.stages.Totals.{Totals}
-use Rattle.types.specs.declared.stages.Waiting.{Waiting}
-use Rattle.types.specs.declared.stages.Write.{Write}
-use Rattle.types.specs.declared.stages.Write.TheVariants as write
 use Rattle.types.specs.declared.machine.State.{State}
 use Rattle.outline.specs.Limits.{raw_limit, rise_limit, day_ticks, total_limit, batch_limit}
 use Rattle.outline.specs.Numbers.{stage_number, error_number, judgement_number}
@@ -163,15 +159,15 @@ module _ (r : Range) (t : Tracking) (w : Weighing) where
 
 -- ---- totals
 module _ (t : Totals) where
-  back_passes : (b : Batch) → BackRange t b → (leb (back_weight b) t.total ≡ true) × (leb (back_tag b) t.count ≡ true)
+  back_passes : (b : Option ℕ) → BackRange t b → (leb (back_weight b) t.total ≡ true) × (leb (back_tag b) t.count ≡ true)
   unfolding back_weight back_tag
-  back_passes batch.Nothing h = (le-leb 0 t.total (omega arith), le-leb 0 t.count (omega arith))
-  back_passes (batch.Weight v) h = (le-leb _ _ h.0, le-leb _ _ h.1)
+  back_passes None h = (le-leb 0 t.total (omega arith), le-leb 0 t.count (omega arith))
+  back_passes (Some v) h = (le-leb _ _ h.0, le-leb _ _ h.1)
 
-  back_of_lem : (b : Batch) → leb (back_weight b) t.total ≡ true → leb (back_tag b) t.count ≡ true → BackRange t b
+  back_of_lem : (b : Option ℕ) → leb (back_weight b) t.total ≡ true → leb (back_tag b) t.count ≡ true → BackRange t b
   unfolding back_weight back_tag
-  back_of_lem batch.Nothing h k = tt
-  back_of_lem (batch.Weight v) h k = (leb-true _ _ h, leb-true _ _ k)
+  back_of_lem None h k = tt
+  back_of_lem (Some v) h k = (leb-true _ _ h, leb-true _ _ k)
 
   abbrev totalsTests : List Bool
   totalsTests = leb t.count batch_limit ∷ leb (back_weight t.back) t.total ∷ leb (back_tag t.back) t.count ∷ []
@@ -376,9 +372,9 @@ count_of true false n h = (λ k. eqb-true n 0 h, λ k. eqb-true n 0 h)
 count_of false b n h = (λ k. eqb-true n 0 h, λ k. eqb-true n 0 h)
 
 -- nothing waits
-none_written : (w : Write) → is_write w ≡ false → w ≡ write.Nothing
-none_written write.Nothing h = refl
-none_written (write.Points p) h = absurd (clash refl h)
+none_written : (w : Option Setpoints) → is_write w ≡ false → w ≡ None
+none_written None h = refl
+none_written (Some p) h = absurd (clash refl h)
 
 module _ (s : Settings) (st : State) where
   abbrev idle : Bool
@@ -388,7 +384,7 @@ module _ (s : Settings) (st : State) where
   good = st.stability.good
 
   abbrev waits : Bool
-  waits = is_write st.waiting.write
+  waits = is_write st.waiting
 
   -- the tests after the first, by the stage
   abbrev togetherTests : List Bool
@@ -407,7 +403,7 @@ module _ (s : Settings) (st : State) where
   together_passes r =
       let begun = either (not good) st.book.begun (λ k. r.begun (not-false good k)) in
       let count = count_passes idle good st.weighing.counter r.resting r.unbroken in
-      let none = either (not idle) (not waits) (λ k. ap (λ (w : Waiting). not (is_write w.write)) (r.none_waits (not-false idle k))) in
+      let none = either (not idle) (not waits) (λ k. ap (λ (w : Option Setpoints). not (is_write w)) (r.none_waits (not-false idle k))) in
       together_by ∙ linked (not good || st.book.begun) togetherTests begun (either idle good r.under_way, (count, (none, (r.flow, tt))))
 
   together_of : together_possible s st ≡ true → TogetherRange s st
@@ -419,7 +415,7 @@ module _ (s : Settings) (st : State) where
         under_way = other idle good l.1.0;
         resting = count.0;
         unbroken = count.1;
-        none_waits = λ k. λ i. record { write = none_written st.waiting.write (not-true waits (other (not idle) (not waits) l.1.1.1.0 (ap not k))) i };
+        none_waits = λ k. λ i. none_written st.waiting (not-true waits (other (not idle) (not waits) l.1.1.1.0 (ap not k))) i;
         flow = l.1.1.1.1.0;
       }
 
@@ -429,7 +425,7 @@ module _ (s : Settings) (st : State) where
   tests =
       stability_possible s.steadiness st.stability ∷ weighing_possible s.range s.tracking st.weighing
       ∷ setpoints_fit s.batching.mode st.setpoints ∷ sequence_possible s.batching st.sequence ∷ totals_possible st.totals
-      ∷ write_fits s.batching.mode st.waiting.write ∷ together_possible s st ∷ []
+      ∷ write_fits s.batching.mode st.waiting ∷ together_possible s st ∷ []
 
   pub range_passes : StateRange s st → Balanced st.book → possible s st ≡ true
   unfolding possible

@@ -1,4 +1,5 @@
 -- A part of a state written in its place: a buffer that held the state holds it with this part made anew. Assumes nothing.
+use Rattle.std.specs.Prelude.{Option, ℕ}
 use Prim.Native.Nat.{ℕ, ◌^◌, ◌<◌}
 use mathlib.Core.Path.{◌≡◌, refl, sym, ap, ◌∙◌}
 use mathlib.Core.List.{List, [], ◌++◌}
@@ -18,7 +19,6 @@ use Rattle.types.specs.declared.weight.Panel.{Panel}
 use Rattle.types.specs.declared.stages.Setpoints.{Setpoints}
 use Rattle.types.specs.declared.stages.Sequence.{Sequence}
 use Rattle.types.specs.declared.stages.Totals.{Totals}
-use Rattle.types.specs.declared.stages.Waiting.{Waiting}
 use Rattle.types.specs.declared.machine.State.{State}
 use Rattle.outline.specs.Parts.{with_book, with_stability, with_weighing, with_setpoints, with_waiting, with_sequence, with_totals}
 use Rattle.images.specs.StateImage.{display_number, stage_timer, back_tag, back_weight, write_tag, write_points, state_length, book_rows, book_numbers, stability_rows, stability_numbers, weighing_rows, weighing_numbers, panel_rows, panel_numbers, setpoint_rows, setpoint_numbers, sequence_rows, sequence_numbers, totals_rows, totals_numbers, waiting_rows, waiting_numbers, put_state, image_of, state_at}
@@ -100,7 +100,7 @@ turns_totals t k l l' e st h = record {
   held = record { book = h.held.book; run = h.held.run; weighing = h.held.weighing; setpoints = h.held.setpoints; waiting = h.held.waiting; sequence = h.held.sequence; totals = k };
 }
 
-pub turns_waiting : (w : Waiting) → HeldSetpoints (write_points w.write) → (l l' : List ℕ) → l' ≡ put_all waiting_rows (waiting_numbers w) l → Turns l l' (λ (st : State). with_waiting st w)
+pub turns_waiting : (w : Option Setpoints) → HeldSetpoints (write_points w) → (l l' : List ℕ) → l' ≡ put_all waiting_rows (waiting_numbers w) l → Turns l l' (λ (st : State). with_waiting st w)
 unfolding image_of put_state
 turns_waiting w k l l' e st h = record {
   image =

@@ -1,9 +1,11 @@
 -- What has a name, as a number and back: the number of a name names it again, and fits its byte. Assumes nothing.
+use Rattle.std.specs.Prelude.{Option, None, Some, ℕ}
 use Prim.Native.Nat.{◌<◌}
 use native.Mathlib.Omega.{arith}
 use mathlib.Core.Path.{◌≡◌, refl}
 use mathlib.Core.Bool.{Bool, true, false}
 use Rattle.places.specs.Places.{flag_of, flag_tag}
+use Rattle.types.specs.declared.stages.Setpoints.{Setpoints}
 use Rattle.types.specs.declared.weight.Display.{Display}
 use Rattle.types.specs.declared.weight.Display.TheVariants as display
 use Rattle.types.specs.declared.stages.Stage.{Stage}
@@ -12,10 +14,6 @@ use Rattle.types.specs.declared.stages.SequenceError.{SequenceError}
 use Rattle.types.specs.declared.stages.SequenceError.TheVariants as error
 use Rattle.types.specs.declared.stages.Judgement.{Judgement}
 use Rattle.types.specs.declared.stages.Judgement.TheVariants as judgement
-use Rattle.types.specs.declared.stages.Write.{Write}
-use Rattle.types.specs.declared.stages.Write.TheVariants as write
-use Rattle.types.specs.declared.stages.Batch.{Batch}
-use Rattle.types.specs.declared.stages.Batch.TheVariants as batch
 use Rattle.outline.specs.Numbers.{stage_number, error_number, judgement_number}
 use Rattle.images.specs.Holds.{HeldSetpoints}
 use Rattle.images.specs.StateImage.{display_number, display_of, stage_of, stage_timer, error_of, judgement_of, back_tag, back_weight, back_of, write_tag, write_points, write_of}
@@ -109,29 +107,29 @@ judgement_lt judgement.Over = omega arith
 judgement_lt judgement.Under = omega arith
 
 -- the batch that can be taken back, with its weight
-pub back_back : (b : Batch) → back_of (back_tag b) (back_weight b) ≡ b
+pub back_back : (b : Option ℕ) → back_of (back_tag b) (back_weight b) ≡ b
 unfolding back_of back_tag back_weight
-back_back batch.Nothing = refl
-back_back (batch.Weight v) = refl
+back_back None = refl
+back_back (Some v) = refl
 
-pub back_lt : (b : Batch) → back_tag b < 256
+pub back_lt : (b : Option ℕ) → back_tag b < 256
 unfolding back_tag
-back_lt batch.Nothing = omega arith
-back_lt (batch.Weight v) = omega arith
+back_lt None = omega arith
+back_lt (Some v) = omega arith
 
 -- the setpoints that are written
-pub write_back : (w : Write) → write_of (write_tag w) (write_points w) ≡ w
+pub write_back : (w : Option Setpoints) → write_of (write_tag w) (write_points w) ≡ w
 unfolding write_of write_tag write_points
-write_back write.Nothing = refl
-write_back (write.Points p) = refl
+write_back None = refl
+write_back (Some p) = refl
 
-pub write_lt : (w : Write) → write_tag w < 256
+pub write_lt : (w : Option Setpoints) → write_tag w < 256
 unfolding write_tag
-write_lt write.Nothing = omega arith
-write_lt (write.Points p) = omega arith
+write_lt None = omega arith
+write_lt (Some p) = omega arith
 
 -- and where there are none, all are 0
-pub none_held : HeldSetpoints (write_points write.Nothing)
+pub none_held : HeldSetpoints (write_points None)
 unfolding write_points
 none_held = record {
   target = omega arith;

@@ -1,5 +1,6 @@
 -- What is read from bytes, whatever they are, fits its types; and written again it gives the same bytes where its flags are 0 or 1, its names are
 -- numbered as they stand, what has no use is 0, and so are the bytes that stand in no place. Assumes nothing.
+use Rattle.std.specs.Prelude.{Option, None, Some, ℕ}
 use Prim.Native.Nat.{ℕ, suc, zero, ◌+◌, ◌*◌, ◌^◌, ◌<◌}
 use native.Mathlib.Nat.{add-zero, add-suc, add_assoc}
 use native.Mathlib.Omega.{arith}
@@ -15,13 +16,10 @@ use Rattle.places.proofs.Numbers.{be_lt, coded_signed, signed_fits, same_self}
 use Rattle.places.proofs.Again.{again}
 use Rattle.types.specs.declared.weight.Display.TheVariants as display
 use Rattle.types.specs.declared.stages.Setpoints.{Setpoints}
-use Rattle.types.specs.declared.stages.Write.TheVariants as write
 use Rattle.types.specs.declared.stages.Stage.{Stage}
 use Rattle.types.specs.declared.stages.Stage.TheVariants as stage
 use Rattle.types.specs.declared.stages.SequenceError.{SequenceError}
 use Rattle.types.specs.declared.stages.Judgement.{Judgement}
-use Rattle.types.specs.declared.stages.Batch.{Batch}
-use Rattle.types.specs.declared.stages.Batch.TheVariants as batch
 use Rattle.types.specs.declared.stages.Sequence.{Sequence}
 use Rattle.types.specs.declared.stages.Totals.{Totals}
 use Rattle.outline.specs.Numbers.{stage_number, error_number, judgement_number}
@@ -60,7 +58,7 @@ back_fits : (n v : ℕ) → v < 2 ^ 64 → back_weight (back_of n v) < 2 ^ 64
 unfolding back_of back_weight
 back_fits n v h = go (eqb n 1)
   where
-    go : (a : Bool) → back_weight (cond a (batch.Weight v) batch.Nothing) < 2 ^ 64
+    go : (a : Bool) → back_weight (cond a (Some v) None) < 2 ^ 64
     go true = h
     go false = omega arith
 
@@ -68,7 +66,7 @@ write_fits_lem : (n : ℕ) (p : Setpoints) → HeldSetpoints p → HeldSetpoints
 unfolding write_of write_points
 write_fits_lem n p h = go (eqb n 1)
   where
-    go : (a : Bool) → HeldSetpoints (write_points (cond a (write.Points p) write.Nothing))
+    go : (a : Bool) → HeldSetpoints (write_points (cond a (Some p) None))
     go true = h
     go false = none_held
 
@@ -182,7 +180,7 @@ write_again (suc zero) a b c d e f g = same_self (a ∷ b ∷ c ∷ d ∷ e ∷ 
 write_again (suc (suc n)) a b c d e f g =
     let ns = a ∷ b ∷ c ∷ d ∷ e ∷ f ∷ g ∷ [] in
     let p : Setpoints = record { target = a; fall = b; preliminary = c; optional = d; over = e; under = f; near = g } in
-    ap (λ (t : Bool). same_bytes (waiting_numbers (record { write = cond t (write.Points p) write.Nothing })) (suc (suc n) ∷ ns)) (ne_eqb (suc (suc n)) 1 (λ e. omega (arith, e)))
+    ap (λ (t : Bool). same_bytes (waiting_numbers (cond t (Some p) None)) (suc (suc n) ∷ ns)) (ne_eqb (suc (suc n)) 1 (λ e. omega (arith, e)))
     ∙ ap (λ (t : Bool). t && same_bytes (replicate 7 0) ns) (ne_eqb 0 (suc (suc n)) (λ e. omega (arith, e)))
     ∙ ap (λ (t : Bool). t && (eqb (suc (suc n)) 1 || same_bytes (replicate 7 0) ns)) (sym (lt-leb (suc (suc n)) 1 (omega arith)))
 
@@ -248,7 +246,7 @@ module _ (l : List ℕ) (b : Bytes l) where
   abbrev name : ℕ → ℕ → ℕ → Row
   name x n at = test x (be_at n l at) (eqb x (be_at n l at)) refl
 
-  abbrev rows : Stage → SequenceError → Judgement → Batch → List Row
+  abbrev rows : Stage → SequenceError → Judgement → Option ℕ → List Row
   rows g e j v =
       narrow 0 ∷ narrow 4 ∷ broad 8 ∷ broad 16 ∷ broad 24 ∷ plain 4 32 ∷ flag 36 ∷ flag 37
       ∷ flag 40 ∷ plain 2 42

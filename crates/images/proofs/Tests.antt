@@ -1,4 +1,5 @@
 -- A chain of tests that ends early, and what an image is refused for, test by test. Assumes nothing.
+use Rattle.std.specs.Prelude.{ℤ, ℕ}
 use Prim.Native.Nat.{ℕ, ◌+◌, ◌*◌}
 use mathlib.Core.Path.{◌≡◌, refl, sym, ◌∙◌}
 use mathlib.Core.Bool.{Bool, true, false, ◌&&◌, ◌||◌}
@@ -63,7 +64,7 @@ module _ (s : Settings) (st : State) where
   parts =
       stability_possible s.steadiness st.stability ∷ weighing_possible s.range s.tracking st.weighing
       ∷ setpoints_fit s.batching.mode st.setpoints ∷ sequence_possible s.batching st.sequence ∷ totals_possible st.totals
-      ∷ write_fits s.batching.mode st.waiting.write ∷ together_possible s st ∷ []
+      ∷ write_fits s.batching.mode st.waiting ∷ together_possible s st ∷ []
 
   pub not_book : book_possible st.book ≡ false → false ≡ possible s st
   unfolding possible
@@ -77,7 +78,7 @@ module _ (s : Settings) (st : State) where
   unfolding possible
   not_totals e = no _ (λ h. clash (links (book_possible st.book) parts h).1.1.1.1.1.0 e)
 
-  pub not_waiting : write_fits s.batching.mode st.waiting.write ≡ false → false ≡ possible s st
+  pub not_waiting : write_fits s.batching.mode st.waiting ≡ false → false ≡ possible s st
   unfolding possible
   not_waiting e = no _ (λ h. clash (links (book_possible st.book) parts h).1.1.1.1.1.1.0 e)
 
@@ -88,8 +89,8 @@ module _ (s : Settings) (st : State) where
   four true true true g = refl
 
   pub rest : book_possible st.book ≡ true → totals_possible st.totals ≡ true → weighing_possible s.range s.tracking st.weighing ≡ true
-      → write_fits s.batching.mode st.waiting.write ≡ true
-      → rest_possible s st.stability st.setpoints st.sequence st.book.begun st.weighing.counter (is_write st.waiting.write) ≡ possible s st
+      → write_fits s.batching.mode st.waiting ≡ true
+      → rest_possible s st.stability st.setpoints st.sequence st.book.begun st.weighing.counter (is_write st.waiting) ≡ possible s st
   unfolding possible rest_possible
   rest b t w v =
       let q = stability_possible s.steadiness st.stability in

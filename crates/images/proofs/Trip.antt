@@ -1,5 +1,6 @@
 -- There and back. A state that its machine types hold is read from its image; an image that is not refused is its state's, and a byte of it that no
 -- row has is 0. Assumes nothing.
+use Rattle.std.specs.Prelude.{Option, ℕ}
 use Prim.Native.Nat.{ℕ}
 use native.Mathlib.Omega.{arith}
 use mathlib.Core.Path.{◌≡◌, refl, sym, ap, ◌∙◌}
@@ -18,7 +19,6 @@ use Rattle.types.specs.declared.weight.Weighing.{Weighing}
 use Rattle.types.specs.declared.stages.Setpoints.{Setpoints}
 use Rattle.types.specs.declared.stages.Sequence.{Sequence}
 use Rattle.types.specs.declared.stages.Totals.{Totals}
-use Rattle.types.specs.declared.stages.Waiting.{Waiting}
 use Rattle.types.specs.declared.machine.State.{State}
 use Rattle.outline.specs.Settings.{settings_of}
 use Rattle.images.specs.StateImage.{state_length, book_rows, book_numbers, book_of, stability_rows, stability_numbers, stability_of, weighing_rows, weighing_numbers, weighing_of, panel_rows, panel_numbers, panel_of, setpoint_rows, setpoint_numbers, setpoints_of, sequence_rows, sequence_numbers, sequence_of, totals_rows, totals_numbers, totals_of, write_points, waiting_rows, waiting_numbers, waiting_of, state_rows, state_numbers, put_state, image_of, state_at}
@@ -45,8 +45,8 @@ sequence_fits_lem q h = (stage_lt q.stage, (h.timer, (h.clock, (error_lt q.error
 totals_fit : (t : Totals) → HeldTotals t → Numbers totals_rows (totals_numbers t)
 totals_fit t h = (h.total, (h.count, (back_lt t.back, (h.weight, tt))))
 
-waiting_fits : (w : Waiting) → HeldSetpoints (write_points w.write) → Numbers waiting_rows (waiting_numbers w)
-waiting_fits w h = (write_lt w.write, setpoints_fit_lem (write_points w.write) h)
+waiting_fits : (w : Option Setpoints) → HeldSetpoints (write_points w) → Numbers waiting_rows (waiting_numbers w)
+waiting_fits w h = (write_lt w, setpoints_fit_lem (write_points w) h)
 
 -- ---- a state from its image
 module _ (st : State) (h : HeldState st) where
@@ -108,7 +108,7 @@ module _ (st : State) (h : HeldState st) where
           judgement = judgement_back st.sequence.judgement i;
         };
         totals = record { total = st.totals.total; count = st.totals.count; back = back_back st.totals.back i };
-        waiting = record { write = write_back st.waiting.write i };
+        waiting = record { write = write_back st.waiting i };
       })
 
 pub image_length : (st : State) → length (image_of st) ≡ state_length

@@ -1,6 +1,6 @@
 -- Figures of images, worked out by hand from the request, the readings and docs/IMAGES.md before any definition was seen. They are proved
 -- in proofs/, and `every_image` has them as its `ensures`.
-use Rattle.std.specs.Prelude.{ℕ, ◌≡◌, Bool, true, false, ℤ, pos, set, replicate}
+use Rattle.std.specs.Prelude.{ℕ, ◌≡◌, Bool, true, false, ℤ, pos, set, replicate, None, Some}
 use mathlib.Core.List.{List, [], ◌∷◌, foldl}
 use Rattle.outline.specs.Figures.{minus, list_a, given_of}
 use Rattle.types.specs.declared.settings.Given.{Given}
@@ -12,7 +12,6 @@ use Rattle.types.specs.declared.stages.SequenceError.{SequenceError}
 use Rattle.types.specs.declared.stages.SequenceError.TheVariants as error
 use Rattle.types.specs.declared.stages.Judgement.{Judgement}
 use Rattle.types.specs.declared.stages.Judgement.TheVariants as judgement
-use Rattle.types.specs.declared.stages.Batch.TheVariants as batch
 use Rattle.types.specs.declared.stages.Totals.{Totals}
 use Rattle.types.specs.declared.daybook.Book.{Book}
 use Rattle.types.specs.declared.machine.State.{State}
@@ -75,7 +74,7 @@ mid = record {
   setpoints = record { target = 30000; fall = 200; preliminary = 5000; optional = 25000; over = 100; under = 150; near = 400 };
   waiting = waiting_for (record { target = 70000; fall = 301; preliminary = 6000; optional = 45000; over = 258; under = 7; near = 1000 });
   sequence = record { stage = stage.MediumDisable 299; clock = 4660; error = error.None; judgement = judgement.None };
-  totals = record { total = 99999999; count = 12345678; back = batch.Weight 77777777 };
+  totals = record { total = 99999999; count = 12345678; back = Some 77777777 };
 }
 
 abbrev pub mid_bytes : List At
@@ -112,7 +111,7 @@ feeding = record {
   setpoints = record { target = 999999; fall = 0; preliminary = 1; optional = 0; over = 999999; under = 0; near = 999999 };
   waiting = none_waiting;
   sequence = record { stage = stage.SmallFlow; clock = 6000; error = error.None; judgement = judgement.None };
-  totals = record { total = 0; count = 0; back = batch.Nothing };
+  totals = record { total = 0; count = 0; back = None };
 }
 
 abbrev pub feeding_bytes : List At
@@ -140,7 +139,7 @@ idle = record {
   setpoints = record { target = 1000; fall = 20; preliminary = 0; optional = 300; over = 5; under = 5; near = 10 };
   waiting = none_waiting;
   sequence = record { stage = stage.Idle; clock = 0; error = error.None; judgement = judgement.Ok };
-  totals = record { total = 123456; count = 3; back = batch.Weight 1003 };
+  totals = record { total = 123456; count = 3; back = Some 1003 };
 }
 
 abbrev pub idle_bytes : List At
@@ -170,7 +169,7 @@ failed = record {
   setpoints = record { target = 5000; fall = 20; preliminary = 0; optional = 300; over = 5; under = 5; near = 100 };
   waiting = none_waiting;
   sequence = record { stage = stage.Idle; clock = 0; error = error.DischargeTime; judgement = judgement.Under };
-  totals = record { total = 4990; count = 1; back = batch.Weight 4990 };
+  totals = record { total = 4990; count = 1; back = Some 4990 };
 }
 
 abbrev pub failed_bytes : List At
@@ -198,7 +197,7 @@ light = record {
   setpoints = record { target = 1; fall = 0; preliminary = 0; optional = 0; over = 0; under = 0; near = 0 };
   waiting = none_waiting;
   sequence = record { stage = stage.Idle; clock = 0; error = error.None; judgement = judgement.Ok };
-  totals = record { total = 0; count = 1; back = batch.Weight 0 };
+  totals = record { total = 0; count = 1; back = Some 0 };
 }
 
 abbrev pub light_bytes : List At
@@ -225,7 +224,7 @@ unweighed = record {
   setpoints = record { target = 1000; fall = 20; preliminary = 0; optional = 0; over = 0; under = 0; near = 0 };
   waiting = none_waiting;
   sequence = record { stage = stage.Idle; clock = 0; error = error.None; judgement = judgement.None };
-  totals = record { total = 0; count = 0; back = batch.Nothing };
+  totals = record { total = 0; count = 0; back = None };
 }
 
 abbrev pub unweighed_bytes : List At
@@ -445,10 +444,10 @@ pub record Judged : Type 0 where
   pub start_without_f : under given_a (aims (stands failed (stage.StartDelay 0) 0 error.None judgement.None) (points 0 0 0 0)) ≡ true
   pub flow_without_f : under given_a (aims (stands failed (stage.SmallDisable 0) 0 error.None judgement.None) (points 0 0 0 0)) ≡ false
   pub p_not_above_ff : under given_a (aims idle (points 1000 20 20 0)) ≡ false
-  pub undo_most : under given_a (sums idle (record { total = 123456; count = 3; back = batch.Weight 123456 })) ≡ true
-  pub undo_over : under given_a (sums idle (record { total = 123456; count = 3; back = batch.Weight 123457 })) ≡ false
-  pub undo_of_none : under given_a (sums idle (record { total = 123456; count = 0; back = batch.Weight 1003 })) ≡ false
-  pub total_over : under given_a (sums idle (record { total = 100000000; count = 3; back = batch.Weight 1003 })) ≡ false
+  pub undo_most : under given_a (sums idle (record { total = 123456; count = 3; back = Some 123456 })) ≡ true
+  pub undo_over : under given_a (sums idle (record { total = 123456; count = 3; back = Some 123457 })) ≡ false
+  pub undo_of_none : under given_a (sums idle (record { total = 123456; count = 0; back = Some 1003 })) ≡ false
+  pub total_over : under given_a (sums idle (record { total = 100000000; count = 3; back = Some 1003 })) ≡ false
   -- what waits
   pub waiting_in_00 : under given_a (waits idle (points 1000 20 0 300)) ≡ false
   pub waiting_in_a_batch : under given_a (waits feeding (points 1000 20 0 300)) ≡ true

@@ -51,7 +51,7 @@ pub record HeldState (st : State) : Type 0 where
   pub run : st.stability.run < 2 ^ 16
   pub weighing : HeldWeighing st.weighing
   pub setpoints : HeldSetpoints st.setpoints
-  pub waiting : HeldSetpoints (write_points st.waiting.write)
+  pub waiting : HeldSetpoints (write_points st.waiting)
   pub sequence : HeldSequence st.sequence
   pub totals : HeldTotals st.totals
 

@@ -1,11 +1,10 @@
 -- What images owe, as statements: each state has one image, what passes 21 is what the outline's ranges and the balance say, and what stays
 -- true from every image that passes. They are proved in proofs/, and `every_image` has them as its `ensures`.
-use Rattle.std.specs.Prelude.{ℕ, ◌≡◌, true, T, get_or, take}
+use Rattle.std.specs.Prelude.{ℕ, ◌≡◌, true, T, get_or, take, Some}
 use mathlib.Core.List.{List, foldl}
 use Rattle.places.specs.Places.{unused}
 use Rattle.types.specs.declared.settings.Given.{Given}
 use Rattle.types.specs.declared.settings.Settings.{Settings}
-use Rattle.types.specs.declared.settings.Opening.TheVariants as opening
 use Rattle.types.specs.declared.machine.State.{State}
 use Rattle.types.specs.declared.machine.Input.{Input}
 use Rattle.settings.specs.Held.{Held}
@@ -31,7 +30,7 @@ good_given g = record { refusal = 0; given = g }
 -- every possible state is read back, under the settings that it is possible under
 abbrev pub ReadBack : Type 0
 ReadBack =
-    (g : Given) (s : Settings) → open_of g ≡ opening.Accepted s → (st : State) → possible s st ≡ true → state_in g (image_of st) ≡ good st
+    (g : Given) (s : Settings) → open_of g ≡ Some s → (st : State) → possible s st ≡ true → state_in g (image_of st) ≡ good st
 
 -- and an image that is not refused is that of its state
 abbrev pub OneImage : Type 0
@@ -64,11 +63,11 @@ Decides = (s : Settings) (st : State) → Decided s st
 -- ---- 1. no image that this controller wrote is refused under its settings
 abbrev pub RunsPass : Type 0
 RunsPass =
-    (g : Given) (s : Settings) → open_of g ≡ opening.Accepted s → (h : History Input) → state_in g (image_of (run_of s h)) ≡ good (run_of s h)
+    (g : Given) (s : Settings) → open_of g ≡ Some s → (h : History Input) → state_in g (image_of (run_of s h)) ≡ good (run_of s h)
 
 -- A6: nor is one that the program before that request wrote, which counted for tracking, and took a zero, while the contact was closed
 abbrev pub EarlierPass : Type 0
-EarlierPass = (g : Given) (s : Settings) → open_of g ≡ opening.Accepted s → (is : List Input) →
+EarlierPass = (g : Given) (s : Settings) → open_of g ≡ Some s → (is : List Input) →
     let st = foldl (earlier_tick s) open_state is in
     state_in g (image_of st) ≡ good st
 
@@ -79,7 +78,7 @@ pub record Goes (g : Given) (s : Settings) (st : State) : Type 0 where
   pub image : state_in g (image_of st) ≡ good st
 
 abbrev pub FromImages : Type 0
-FromImages = (g : Given) (s : Settings) → open_of g ≡ opening.Accepted s → (l : List ℕ) → (state_in g l).refusal ≡ 0 → (is : List Input)
+FromImages = (g : Given) (s : Settings) → open_of g ≡ Some s → (l : List ℕ) → (state_in g l).refusal ≡ 0 → (is : List Input)
     → Goes g s (run_from s (state_in g l).state is)
 
 -- ---- A5: "The image carries both, and an old image opens with none waiting."
@@ -100,5 +99,5 @@ pub record Earlier (st : State) : Type 0 where
 
 abbrev pub EarlierRead : Type 0
 EarlierRead =
-    (g : Given) (s : Settings) → open_of g ≡ opening.Accepted s → (st : State) → possible s st ≡ true → st.waiting ≡ none_waiting
+    (g : Given) (s : Settings) → open_of g ≡ Some s → (st : State) → possible s st ≡ true → st.waiting ≡ none_waiting
     → Earlier st

@@ -1,6 +1,6 @@
 -- What a state can be: the ranges of its fields (outline's Ranges, reading D112) and the balance of its day, as one Boolean under
 -- settings. A state that is not possible gives 21. Stages, errors and judgements are told by their numbers.
-use Rattle.std.specs.Prelude.{ℕ, ◌+◌, ◌*◌, ◌/◌, max, Bool, true, false, cond, not, ◌&&◌, ◌||◌, eqb, ltb, leb, pos, nat_abs, ◌+ℤ◌, ◌-ℤ◌}
+use Rattle.std.specs.Prelude.{ℕ, ◌+◌, ◌*◌, ◌/◌, max, Bool, true, false, cond, not, ◌&&◌, ◌||◌, eqb, ltb, leb, pos, nat_abs, ◌+ℤ◌, ◌-ℤ◌, ℤ}
 use Rattle.std.specs.Int.Signed.{le_z}
 use Rattle.whole.specs.Ints.{eq_z}
 use Rattle.types.specs.declared.settings.Mode.{Mode}
@@ -119,7 +119,7 @@ together_fits m p n good begun counter waits =
 abbrev pub together_possible : Settings → State → Bool
 together_possible s st =
     together_fits s.batching.mode st.setpoints (stage_number st.sequence.stage) st.stability.good st.book.begun
-    st.weighing.counter (is_write st.waiting.write)
+    st.weighing.counter (is_write st.waiting)
 
 -- what is left to ask after the day book, the totals, zero and tare, and what waits: the other parts, and how all go together
 unfoldable pub rest_possible : Settings → Stability → Setpoints → Sequence → Bool → ℕ → Bool → Bool
@@ -138,5 +138,5 @@ possible s st =
     && setpoints_fit s.batching.mode st.setpoints
     && sequence_possible s.batching st.sequence
     && totals_possible st.totals
-    && write_fits s.batching.mode st.waiting.write
+    && write_fits s.batching.mode st.waiting
     && together_possible s st

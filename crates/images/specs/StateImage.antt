@@ -1,6 +1,6 @@
 -- The state image: 288 bytes, as docs/IMAGES.md has them. Each part of the state has a table of rows, a place and a count of bytes for each
 -- field; beside it stand the numbers that the part has for its rows, and the part that numbers make. A byte that no row has is 0.
-use Rattle.std.specs.Prelude.{ℕ, ◌-◌, List, [], ◌∷◌, ◌++◌, cond, eqb, get_or, drop, replicate}
+use Rattle.std.specs.Prelude.{ℕ, ◌-◌, List, [], ◌∷◌, ◌++◌, cond, eqb, get_or, drop, replicate, Option, None, Some}
 use Rattle.std.specs.Int.{w32, w64}
 use Rattle.places.specs.Places.{Place, row, get_all, put_all, signed, coded, flag_of, flag_tag}
 use Rattle.types.specs.declared.daybook.Book.{Book}
@@ -10,9 +10,6 @@ use Rattle.types.specs.declared.weight.Display.{Display}
 use Rattle.types.specs.declared.weight.Display.TheVariants as display
 use Rattle.types.specs.declared.weight.Panel.{Panel}
 use Rattle.types.specs.declared.stages.Setpoints.{Setpoints}
-use Rattle.types.specs.declared.stages.Write.{Write}
-use Rattle.types.specs.declared.stages.Write.TheVariants as write
-use Rattle.types.specs.declared.stages.Waiting.{Waiting}
 use Rattle.types.specs.declared.stages.Stage.{Stage}
 use Rattle.types.specs.declared.stages.Stage.TheVariants as stage
 use Rattle.types.specs.declared.stages.SequenceError.{SequenceError}
@@ -20,8 +17,6 @@ use Rattle.types.specs.declared.stages.SequenceError.TheVariants as error
 use Rattle.types.specs.declared.stages.Judgement.{Judgement}
 use Rattle.types.specs.declared.stages.Judgement.TheVariants as judgement
 use Rattle.types.specs.declared.stages.Sequence.{Sequence}
-use Rattle.types.specs.declared.stages.Batch.{Batch}
-use Rattle.types.specs.declared.stages.Batch.TheVariants as batch
 use Rattle.types.specs.declared.stages.Totals.{Totals}
 use Rattle.types.specs.declared.machine.State.{State}
 use Rattle.outline.specs.Setpoints.{open_setpoints, written_else}
@@ -93,27 +88,27 @@ unfoldable pub judgement_of : ℕ → Judgement
 judgement_of n = cond (eqb n 1) judgement.Ok (cond (eqb n 2) judgement.Over (cond (eqb n 3) judgement.Under judgement.None))
 
 -- whether a batch can be taken back, and its weight, which is 0 where there is none (D113)
-unfoldable pub back_tag : Batch → ℕ
-back_tag batch.Nothing = 0
-back_tag (batch.Weight v) = 1
+unfoldable pub back_tag : Option ℕ → ℕ
+back_tag None = 0
+back_tag (Some v) = 1
 
-unfoldable pub back_weight : Batch → ℕ
-back_weight batch.Nothing = 0
-back_weight (batch.Weight v) = v
+unfoldable pub back_weight : Option ℕ → ℕ
+back_weight None = 0
+back_weight (Some v) = v
 
-unfoldable pub back_of : ℕ → ℕ → Batch
-back_of n v = cond (eqb n 1) (batch.Weight v) batch.Nothing
+unfoldable pub back_of : ℕ → ℕ → Option ℕ
+back_of n v = cond (eqb n 1) (Some v) None
 
 -- whether setpoints are written, and which, all 0 where there are none (D113)
-unfoldable pub write_tag : Write → ℕ
-write_tag write.Nothing = 0
-write_tag (write.Points p) = 1
+unfoldable pub write_tag : Option Setpoints → ℕ
+write_tag None = 0
+write_tag (Some p) = 1
 
-unfoldable pub write_points : Write → Setpoints
+unfoldable pub write_points : Option Setpoints → Setpoints
 write_points w = written_else w open_setpoints
 
-unfoldable pub write_of : ℕ → Setpoints → Write
-write_of n p = cond (eqb n 1) (write.Points p) write.Nothing
+unfoldable pub write_of : ℕ → Setpoints → Option Setpoints
+write_of n p = cond (eqb n 1) (Some p) None
 
 -- ---- the day book: opening, last, refilled, used, unbooked, ticks, begun, contact
 abbrev pub book_rows : List Place
@@ -218,11 +213,11 @@ totals_of ns = record { total = get_or ns 0 0; count = get_or ns 1 0; back = bac
 abbrev pub waiting_rows : List Place
 waiting_rows = row 256 1 ∷ row 260 4 ∷ row 264 4 ∷ row 268 4 ∷ row 272 4 ∷ row 276 4 ∷ row 280 4 ∷ row 284 4 ∷ []
 
-abbrev pub waiting_numbers : Waiting → List ℕ
-waiting_numbers w = write_tag w.write ∷ setpoint_numbers (write_points w.write)
+abbrev pub waiting_numbers : Option Setpoints → List ℕ
+waiting_numbers w = write_tag w ∷ setpoint_numbers (write_points w)
 
-abbrev pub waiting_of : List ℕ → Waiting
-waiting_of ns = record { write = write_of (get_or ns 0 0) (setpoints_of (drop 1 ns)) }
+abbrev pub waiting_of : List ℕ → Option Setpoints
+waiting_of ns = write_of (get_or ns 0 0) (setpoints_of (drop 1 ns))
 
 -- ---- the whole
 abbrev pub state_rows : List Place

@@ -4,7 +4,7 @@ ghost use Rattle.std.specs.Prelude.{◌≡◌};
 ghost use Rattle.images.specs.StateImage.{display_number, display_of, stage_of, stage_timer, error_of, judgement_of, back_tag, back_weight};
 ghost use Rattle.images.specs.StateImage.{back_of, write_of};
 
-use types::stages::{Batch, Judgement, SequenceError, Setpoints, Stage, Write};
+use types::stages::{Judgement, SequenceError, Setpoints, Stage};
 use types::weight::Display;
 
 pub(crate) fn display_number(d: Display) -> u8
@@ -95,38 +95,38 @@ pub(crate) fn judgement_of(n: u8) -> Judgement
 }
 
 // Whether a batch can be taken back, and its weight, 0 where there is none.
-pub(crate) fn back_tag(back: Batch) -> u8
+pub(crate) fn back_tag(back: Option<u64>) -> u8
     ensures { result ≡ back_tag back }
 {
     match back {
-        Batch::Nothing => 0,
-        Batch::Weight(_) => 1,
+        None => 0,
+        Some(_) => 1,
     }
 }
 
-pub(crate) fn back_weight(back: Batch) -> u64
+pub(crate) fn back_weight(back: Option<u64>) -> u64
     ensures { result ≡ back_weight back }
 {
     match back {
-        Batch::Nothing => 0,
-        Batch::Weight(v) => v,
+        None => 0,
+        Some(v) => v,
     }
 }
 
-pub(crate) fn back_of(n: u8, weight: u64) -> Batch
+pub(crate) fn back_of(n: u8, weight: u64) -> Option<u64>
     ensures { result ≡ back_of n weight }
 {
     if n == 1 {
-        return Batch::Weight(weight);
+        return Some(weight);
     }
-    Batch::Nothing
+    None
 }
 
-pub(crate) fn write_of(n: u8, p: Setpoints) -> Write
+pub(crate) fn write_of(n: u8, p: Setpoints) -> Option<Setpoints>
     ensures { result ≡ write_of n p }
 {
     if n == 1 {
-        return Write::Points(p);
+        return Some(p);
     }
-    Write::Nothing
+    None
 }

@@ -17,9 +17,7 @@ use crate::names::{
 };
 use numbers::{error_number, judgement_number, stage_number};
 use types::daybook::Book;
-use types::stages::{
-    Batch, Judgement, Sequence, SequenceError, Setpoints, Stage, Totals, Waiting, Write,
-};
+use types::stages::{Judgement, Sequence, SequenceError, Setpoints, Stage, Totals};
 use types::weight::{Display, Panel, Stability, Weighing};
 
 // The bytes of a state image.
@@ -259,7 +257,7 @@ pub fn totals_at(s: &[u8]) -> Totals
         return Totals {
             total: 0,
             count: 0,
-            back: Batch::Nothing,
+            back: None,
         };
     }
     let total = places::u64_at(s, 96);
@@ -283,12 +281,12 @@ pub fn put_totals(s: &mut [u8], t: Totals)
 }
 
 // The waiting setpoints stand past the end of an earlier image: none are waiting in it.
-pub fn waiting_at(s: &[u8]) -> Waiting
+pub fn waiting_at(s: &[u8]) -> Option<Setpoints>
     ensures { result ≡ (state_at (bytes_of state_length s.now)).waiting }
 {
     if s.len() != STATE_LENGTH {
         return Waiting {
-            write: Write::Nothing,
+            write: None,
         };
     }
     let target = places::u32_at(s, 260);

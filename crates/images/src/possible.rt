@@ -25,7 +25,7 @@ use setpoints::{has_no_large, setpoints_fit};
 use settings::mode_of;
 use types::daybook::Book;
 use types::settings::Mode;
-use types::stages::{Sequence, Setpoints, Totals, Write};
+use types::stages::{Sequence, Setpoints, Totals};
 use types::weight::{Stability, Weighing};
 use whole::{magnitude, wide};
 
@@ -285,22 +285,22 @@ fn given_mode(g: &[u8]) -> Mode
 }
 
 // There are setpoints in it.
-fn has_points(w: Write) -> bool
+fn has_points(w: Option<Setpoints>) -> bool
     ensures { result ≡ is_write w }
 {
     match w {
-        Write::Nothing => false,
-        Write::Points(_) => true,
+        None => false,
+        Some(_) => true,
     }
 }
 
 // What waits keeps the rules of 6.
-fn write_fits(g: &[u8], w: Write) -> bool
+fn write_fits(g: &[u8], w: Option<Setpoints>) -> bool
     ensures { result ≡ write_fits (settings_of (given_at g.now)).batching.mode w }
 {
     match w {
-        Write::Nothing => return true,
-        Write::Points(p) => return setpoints_fit(given_mode(g), p),
+        None => return true,
+        Some(p) => return setpoints_fit(given_mode(g), p),
     }
 }
 

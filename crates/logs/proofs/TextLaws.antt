@@ -1,4 +1,5 @@
 -- A text by its keys and numbers: how long it is, what is still to be put of it, and that a ticket is one. Assumes nothing.
+use Rattle.std.specs.Prelude.{Option, None, Some, ℕ}
 use Prim.Native.Nat.{ℕ, suc, ◌+◌, ◌*◌, ◌≤◌, ◌<◌, zero-le}
 use native.Mathlib.Nat.{add-zero, add-suc, suc-add}
 use native.Mathlib.Numerals.{add-one}
@@ -11,8 +12,6 @@ use lib.Dec.{leb-zero, eqb}
 use lib.ListN.{length, replicate, get_or, take, drop, set, length-append, length-take, drop_of_length-le}
 use lib.Seq.{sets, length-sets, set-set, drop-cons, get_or-take}
 use Rattle.types.specs.declared.daybook.Book.{Book}
-use Rattle.types.specs.declared.daybook.Closed.{Closed}
-use Rattle.types.specs.declared.daybook.Closed.TheVariants as closed
 use Rattle.types.specs.declared.weight.Weighing.{Weighing}
 use Rattle.types.specs.declared.stages.Totals.{Totals}
 use Rattle.outline.specs.Replies.{written_of}
@@ -140,11 +139,11 @@ ticket_text_lem : (b : Book) (w : Weighing) (t : Totals) → filled (ascii "open
 unfolding filled day_text left_text pair_text number_line
 ticket_text_lem b w t = simp append_assoc
 
-pub ticket_none : (w : Weighing) (t : Totals) → ticket_text closed.Nothing w t ≡ []
+pub ticket_none : (w : Weighing) (t : Totals) → ticket_text None w t ≡ []
 unfolding ticket_text
 ticket_none w t = refl
 
-pub ticket_lines : (w : Weighing) (t : Totals) (b : Book) {c : Closed} {s : List Amount} → c ≡ closed.Day b → s ≡ amounts_of b w t → filled (ascii "opening=refilled=used=unbooked=closing=tracked=batches=total=") s ≡ ticket_text c w t
+pub ticket_lines : (w : Weighing) (t : Totals) (b : Book) {c : Option Book} {s : List Amount} → c ≡ Some b → s ≡ amounts_of b w t → filled (ascii "opening=refilled=used=unbooked=closing=tracked=batches=total=") s ≡ ticket_text c w t
 unfolding ticket_text
 ticket_lines w t b e q = rw (e, q) (ticket_text_lem b w t)
 

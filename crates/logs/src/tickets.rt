@@ -7,7 +7,7 @@ ghost use Rattle.outline.specs.Ticket.{ticket_text, refused_text, fitted_in};
 ghost use Rattle.logs.specs.Amounts.{amounts_of};
 
 use crate::pairs::{Amount, NUMBERS, amount_of, write_text};
-use types::daybook::{Book, Closed};
+use types::daybook::Book;
 use types::settings::Given;
 use types::stages::Totals;
 use types::weight::Weighing;
@@ -71,11 +71,11 @@ fn amounts_of(book: Book, weighing: Weighing, totals: Totals) -> [Amount; NUMBER
 }
 
 // A ticket, where the tick closed a day; else no byte. The answer is the count of its bytes, 0 too where they do not fit.
-pub fn write_ticket(out: &mut [u8], closed: Closed, weighing: Weighing, totals: Totals) -> usize
+pub fn write_ticket(out: &mut [u8], closed: Option<Book>, weighing: Weighing, totals: Totals) -> usize
     ensures count { result ≡ fitted_in (ticket_text closed weighing totals) out.old }
     ensures bytes { out.new ≡ written_of (ticket_text closed weighing totals) out.old }
 {
-    let Closed::Day(book) = closed else {
+    let Some(book) = closed else {
         return 0;
     };
     write_text(

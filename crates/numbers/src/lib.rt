@@ -5,8 +5,8 @@ ghost use Rattle.std.specs.Prelude.{◌≡◌};
 ghost use Rattle.outline.specs.Numbers.{refusal_number, outcome_number, told_number, stage_number, error_number, judgement_number, analog_number};
 
 use types::analog::Analog;
-use types::lines::LineAnswer;
-use types::requests::{Outcome, Refusal};
+use types::lines::LineRefusal;
+use types::requests::Refusal;
 use types::stages::{Judgement, SequenceError, Stage};
 
 // What a call answers where it runs no tick, or where no line was asked. No enum has these: they come of buffers, images and settings as
@@ -39,25 +39,25 @@ pub fn refusal_number(n: Refusal) -> u8
     }
 }
 
-pub fn outcome_number(o: Outcome) -> u8
+pub fn outcome_number(o: Result<(), Refusal>) -> u8
     ensures { result ≡ outcome_number o }
 {
     match o {
-        Outcome::Done => 0,
-        Outcome::Refused(n) => refusal_number(n),
+        Ok(()) => 0,
+        Err(n) => refusal_number(n),
     }
 }
 
-pub fn told_number(t: LineAnswer) -> u8
+pub fn told_number(t: Result<(), LineRefusal>) -> u8
     ensures { result ≡ told_number t }
 {
     match t {
-        LineAnswer::Done => 0,
-        LineAnswer::Refused(n) => refusal_number(n),
-        LineAnswer::Malformed => 11,
-        LineAnswer::OtherAddress => 12,
-        LineAnswer::Unknown => NO_REQUEST,
-        LineAnswer::ShortBuffer => SHORT_BUFFER,
+        Ok(()) => 0,
+        Err(LineRefusal::Request(n)) => refusal_number(n),
+        Err(LineRefusal::Malformed) => 11,
+        Err(LineRefusal::OtherAddress) => 12,
+        Err(LineRefusal::Unknown) => NO_REQUEST,
+        Err(LineRefusal::ShortBuffer) => SHORT_BUFFER,
     }
 }
 

@@ -1,4 +1,5 @@
 -- The number of each answer is the one that the outline's tables and sentences give. The proofs of the calls cite these laws.
+use Rattle.std.specs.Prelude.{Result, Ok, Err, ℤ, ℕ}
 use Prim.Native.Nat.{ℕ, suc, ◌+◌}
 use native.Mathlib.Omega.{arith}
 use mathlib.Core.Path.{◌≡◌, refl, ap, ◌∙◌}
@@ -7,6 +8,7 @@ use mathlib.Core.List.{List, [], ◌∷◌}
 use lib.Dec.{leb, eqb}
 use lib.ListN.{length, get_or}
 use lib.IntN.{ℤ}
+use Rattle.types.specs.declared.requests.Refusal.{Refusal}
 use Rattle.types.specs.declared.settings.Given.{Given}
 use Rattle.types.specs.declared.settings.Mode.{Mode}
 use Rattle.types.specs.declared.settings.Mode.TheVariants as mode
@@ -17,16 +19,16 @@ use Rattle.types.specs.declared.analog.Scale.{Scale}
 use Rattle.types.specs.declared.weight.Weights.{Weights}
 use Rattle.types.specs.declared.requests.Request.{Request}
 use Rattle.types.specs.declared.requests.Request.TheVariants as request
-use Rattle.types.specs.declared.requests.Outcome.{Outcome}
-use Rattle.types.specs.declared.requests.Outcome.TheVariants as outcome
 use Rattle.types.specs.declared.stages.Stage.{Stage}
 use Rattle.types.specs.declared.stages.Stage.TheVariants as stage
 use Rattle.types.specs.declared.lines.LineKind.{LineKind}
 use Rattle.types.specs.declared.lines.LineKind.TheVariants as kind
-use Rattle.types.specs.declared.lines.Command.{Command}
-use Rattle.types.specs.declared.lines.Command.TheVariants as command
-use Rattle.types.specs.declared.lines.LineEnd.{LineEnd}
-use Rattle.types.specs.declared.lines.LineEnd.TheVariants.{Missing, Beyond, At}
+use Rattle.types.specs.declared.lines.Order.{Order}
+use Rattle.types.specs.declared.lines.LineFault.{LineFault}
+use Rattle.types.specs.declared.lines.Order.TheVariants as order
+use Rattle.types.specs.declared.lines.LineFault.TheVariants as fault
+use Rattle.types.specs.declared.lines.NoEnd.{NoEnd}
+use Rattle.types.specs.declared.lines.NoEnd.TheVariants.{Missing, Beyond}
 use Rattle.types.specs.declared.machine.State.{State}
 use Rattle.types.specs.declared.machine.Input.{Input}
 use Rattle.types.specs.declared.machine.Blocked.{Blocked}
@@ -119,33 +121,33 @@ unfolding tick_due
 unasked_number s st count contact = tick_number s st (unasked_of count contact)
 
 -- ---- a line's second answer
-end_at_lem : (n : ℕ) (s : List ℕ) → line_end_from n s ≡ cond (has_end s) (end_at (n + bytes_before s)) Missing
+end_at_lem : (n : ℕ) (s : List ℕ) → line_end_from n s ≡ cond (has_end s) (end_at (n + bytes_before s)) (Err Missing)
 end_at_lem n [] = refl
 end_at_lem n (x ∷ s) = go (is_cr_lf x (get_or s 0 0)) (end_at_lem (suc n) s)
   where
-    go : (t : Bool) → line_end_from (suc n) s ≡ cond (has_end s) (end_at (suc n + bytes_before s)) Missing
-        → cond t (end_at n) (line_end_from (suc n) s) ≡ cond (t || has_end s) (end_at (n + cond t 0 (suc (bytes_before s)))) Missing
+    go : (t : Bool) → line_end_from (suc n) s ≡ cond (has_end s) (end_at (suc n + bytes_before s)) (Err Missing)
+        → cond t (end_at n) (line_end_from (suc n) s) ≡ cond (t || has_end s) (end_at (n + cond t 0 (suc (bytes_before s)))) (Err Missing)
     go true h = let e : n ≡ n + 0 = omega arith in ap end_at e
-    go false h = let e : suc n + bytes_before s ≡ n + suc (bytes_before s) = omega arith in h ∙ ap (λ (m : ℕ). cond (has_end s) (end_at m) Missing) e
+    go false h = let e : suc n + bytes_before s ≡ n + suc (bytes_before s) = omega arith in h ∙ ap (λ (m : ℕ). cond (has_end s) (end_at m) (Err Missing)) e
 
-found : (receive : List ℕ) → line_end_from 0 receive ≡ cond (has_end receive) (end_at (bytes_before receive)) Missing
+found : (receive : List ℕ) → line_end_from 0 receive ≡ cond (has_end receive) (end_at (bytes_before receive)) (Err Missing)
 found receive =
     let e : 0 + bytes_before receive ≡ bytes_before receive = omega arith in
-    end_at_lem 0 receive ∙ ap (λ (m : ℕ). cond (has_end receive) (end_at m) Missing) e
+    end_at_lem 0 receive ∙ ap (λ (m : ℕ). cond (has_end receive) (end_at m) (Err Missing)) e
 
 -- what holds of the kind of no line, and of one of n bytes, holds of a buffer's
 module _ {B : Type 0} (f : LineKind → B) where
   of_bytes : (n : ℕ) → f (kind_at (end_at n)) ≡ cond (leb n line_limit) (cond (eqb n 0) (f kind.Empty) (f kind.Text)) (f kind.Long)
   of_bytes n =
-      picked (λ (e : LineEnd). f (kind_at e)) (leb n line_limit) (At n) Beyond
+      picked (λ (e : Result ℕ NoEnd). f (kind_at e)) (leb n line_limit) (Ok n) (Err Beyond)
       ∙ ap (λ (k : B). cond (leb n line_limit) k (f kind.Long)) (picked f (eqb n 0) kind.Empty kind.Text)
 
   of_kind : (receive : List ℕ) → f (kind_of receive)
       ≡ cond (has_end receive) (cond (leb (bytes_before receive) line_limit) (cond (eqb (bytes_before receive) 0) (f kind.Empty) (f kind.Text)) (f kind.Long)) (f kind.NoLine)
   unfolding kind_of line_end_of
   of_kind receive =
-      ap (λ (e : LineEnd). f (kind_at e)) (found receive)
-      ∙ picked (λ (e : LineEnd). f (kind_at e)) (has_end receive) (end_at (bytes_before receive)) Missing
+      ap (λ (e : Result ℕ NoEnd). f (kind_at e)) (found receive)
+      ∙ picked (λ (e : Result ℕ NoEnd). f (kind_at e)) (has_end receive) (end_at (bytes_before receive)) (Err Missing)
       ∙ ap (λ (k : B). cond (has_end receive) k (f kind.NoLine)) (of_bytes (bytes_before receive))
 
 pub kind_number_lem : (receive : List ℕ) → kind_number (kind_of receive) ≡ kind_due receive
@@ -162,17 +164,17 @@ has_line_lem receive = of_kind is_line receive ∙ go (has_end receive) (leb (by
     go true false e = refl
     go false t e = refl
 
-told_number_lem : (c : Command) (o : Outcome) → told_number (told_of c o) ≡ body_due c (outcome_number o)
+told_number_lem : (c : Result Order LineFault) (o : Result (Unit {0}) Refusal) → told_number (told_of c o) ≡ body_due c (outcome_number o)
 unfolding told_of
-told_number_lem (command.Do w) outcome.Done = refl
-told_number_lem (command.Do w) (outcome.Refused n) = refl
-told_number_lem (command.Set p) outcome.Done = refl
-told_number_lem (command.Set p) (outcome.Refused n) = refl
-told_number_lem command.NoLine o = refl
-told_number_lem command.LongLine o = refl
-told_number_lem command.OtherAddress o = refl
-told_number_lem command.Malformed o = refl
-told_number_lem command.Unknown o = refl
+told_number_lem (Ok (order.Do w)) (Ok tt) = refl
+told_number_lem (Ok (order.Do w)) (Err n) = refl
+told_number_lem (Ok (order.Set p)) (Ok tt) = refl
+told_number_lem (Ok (order.Set p)) (Err n) = refl
+told_number_lem (Err fault.NoLine) o = refl
+told_number_lem (Err fault.LongLine) o = refl
+told_number_lem (Err fault.OtherAddress) o = refl
+told_number_lem (Err fault.Malformed) o = refl
+told_number_lem (Err fault.Unknown) o = refl
 
 module _ (s : Settings) (st : State) (count : ℤ) (contact : Bool) (receive buffer : List ℕ) where
   by_order : (l p f : Bool) → is_line (kind_of receive) ≡ l → is_prefixed (line_of receive) s.address ≡ p → is_fitting s st count contact receive buffer ≡ f

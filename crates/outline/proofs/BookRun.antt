@@ -1,11 +1,11 @@
 -- The book of every run is its history's sums, and balances. Assumes nothing.
+use Rattle.std.specs.Prelude.{Some, ℤ}
 use Prim.Native.Nat.{suc}
 use mathlib.Core.Path.{◌≡◌, refl, sym, ap, ◌∙◌, subst}
 use mathlib.Core.Bool.{Bool, true, false, cond, ◌&&◌}
 use mathlib.Core.List.{[], ◌∷◌}
 use lib.IntN.{◌+ℤ◌, ◌-ℤ◌}
 use Rattle.types.specs.declared.settings.Settings.{Settings}
-use Rattle.types.specs.declared.weight.Raw.TheVariants.{Tenths}
 use Rattle.types.specs.declared.daybook.Book.{Book}
 use Rattle.types.specs.declared.machine.Input.{Input}
 use Rattle.outline.specs.Weight.{tenths_of, raw_of}
@@ -41,7 +41,7 @@ module _ (s : Settings) (ok : Accepted s) where
       good-tick : good_of i.count ≡ true →
           let goods = goods_of s.calibration (tape_of h) in
           let n = ticks_of (tape_of h) in
-          book_of (day_sums goods n) (Tenths (tenths_of s.calibration i.count)) i.contact ≡ day_sums (good_at s.calibration (noted i) (suc n) ∷ goods) (suc n)
+          book_of (day_sums goods n) (Some (tenths_of s.calibration i.count)) i.contact ≡ day_sums (good_at s.calibration (noted i) (suc n) ∷ goods) (suc n)
       good-tick e = book_good (goods_of s.calibration (tape_of h)) (ticks_of (tape_of h)) _ i.contact (bounded h) ((raw_law s ok i.count).small e)
 
       go : (good asks : Bool) → good_of i.count ≡ good →

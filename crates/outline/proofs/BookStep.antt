@@ -1,15 +1,13 @@
 -- What a tick does to the day book, whatever it does to the rest. Assumes nothing.
+use Rattle.std.specs.Prelude.{Option, None, Some, Ok, Err, ℤ}
 use mathlib.Core.Path.{◌≡◌, refl, ◌∙◌}
 use mathlib.Core.Bool.{Bool, true, false, cond, not, ◌&&◌}
 use Rattle.types.specs.declared.settings.Settings.{Settings}
-use Rattle.types.specs.declared.weight.Raw.{Raw}
-use Rattle.types.specs.declared.weight.Raw.TheVariants.{Bad, Tenths}
 use Rattle.types.specs.declared.weight.Weights.{Weights}
 use Rattle.types.specs.declared.daybook.Book.{Book}
 use Rattle.types.specs.declared.requests.Request.{Request}
 use Rattle.types.specs.declared.requests.Request.TheVariants as request
 use Rattle.types.specs.declared.requests.Refusal.TheVariants as refusal
-use Rattle.types.specs.declared.requests.Outcome.TheVariants as outcome
 use Rattle.types.specs.declared.machine.State.{State}
 use Rattle.types.specs.declared.machine.Input.{Input}
 use Rattle.types.specs.declared.machine.Settled.{Settled}
@@ -21,12 +19,12 @@ use Rattle.outline.specs.Kinds.{request_kind}
 use Rattle.outline.proofs.Parts.{cond_same, and_no, and_yes}
 
 -- step 2
-pub entered_book : (s : Settings) (st : State) (raw : Raw) (contact : Bool) → (entered_of s st raw contact).book ≡ book_of st.book raw contact
+pub entered_book : (s : Settings) (st : State) (raw : Option ℤ) (contact : Bool) → (entered_of s st raw contact).book ≡ book_of st.book raw contact
 unfolding entered_of
 entered_book s st raw contact = refl
 
 -- a day close is accepted in a good tick
-close_done : (good : Bool) → done_of (cond (not good) (outcome.Refused refusal.BadTick) outcome.Done) ≡ good
+close_done : (good : Bool) → done_of (cond (not good) (Err refusal.BadTick) (Ok tt)) ≡ good
 close_done true = refl
 close_done false = refl
 
@@ -53,19 +51,19 @@ unfolding ended_of with_tracking stepped_of finished_of
 ended_book s a x = simp cond_same
 
 -- the book's part of a tick: what came in, and whether a day close was asked
-abbrev pub book_tick : Raw → Bool → Bool → Book → Book
-book_tick Bad contact asks b = book_of b Bad contact
-book_tick (Tenths x) contact true b = closed_of (book_of b (Tenths x) contact)
-book_tick (Tenths x) contact false b = book_of b (Tenths x) contact
+abbrev pub book_tick : Option ℤ → Bool → Bool → Book → Book
+book_tick None contact asks b = book_of b None contact
+book_tick (Some x) contact true b = closed_of (book_of b (Some x) contact)
+book_tick (Some x) contact false b = book_of b (Some x) contact
 
 -- the step law
 pub tick_book : (s : Settings) (st : State) (i : Input) → (next_of s st i).book ≡ book_tick (raw_of s.calibration i.count) i.contact (request_kind i.request).closes st.book
 unfolding next_of settled_of entered_of weights_of weigh_of
 tick_book s st i = ended_book s _ _ ∙ settled_book s _ _ i.request ∙ go (raw_of s.calibration i.count) (request_kind i.request).closes
   where
-    go : (raw : Raw) (asks : Bool) →
+    go : (raw : Option ℤ) (asks : Bool) →
         let entered = entered_of s st raw i.contact in
         cond ((weights_of s entered raw i.contact).good && asks) (closed_of entered.book) entered.book ≡ book_tick raw i.contact asks st.book
-    go Bad asks = refl
-    go (Tenths x) true = refl
-    go (Tenths x) false = refl
+    go None asks = refl
+    go (Some x) true = refl
+    go (Some x) false = refl

@@ -1,5 +1,6 @@
 -- A6: while the refill contact is closed the zero in force stays, and to all requests but a zero the contact makes no difference. Assumes
 -- nothing.
+use Rattle.std.specs.Prelude.{Option, None, Some, Result, Ok, Err, ℤ}
 use mathlib.Core.Path.{◌≡◌, refl, sym, ap, ◌∙◌}
 use mathlib.Core.Bool.{Bool, true, false, cond, not, ◌&&◌}
 use mathlib.Core.List.{[], ◌∷◌}
@@ -7,23 +8,19 @@ use Prim.Native.Nat.{suc}
 use lib.Dec.{leb}
 use lib.ListN.{length}
 use lib.IntN.{ℤ, pos}
+use Rattle.types.specs.declared.requests.Refusal.{Refusal}
 use Rattle.types.specs.declared.settings.Mode.{Mode}
 use Rattle.types.specs.declared.settings.Mode.TheVariants as mode
 use Rattle.types.specs.declared.settings.Settings.{Settings}
-use Rattle.types.specs.declared.weight.Raw.{Raw}
-use Rattle.types.specs.declared.weight.Raw.TheVariants.{Bad, Tenths}
 use Rattle.types.specs.declared.weight.Stability.{Stability}
 use Rattle.types.specs.declared.weight.Weighing.{Weighing}
 use Rattle.types.specs.declared.weight.Weights.{Weights}
 use Rattle.types.specs.declared.weight.Display.{Display}
 use Rattle.types.specs.declared.weight.Display.TheVariants as display
 use Rattle.types.specs.declared.daybook.Book.{Book}
-use Rattle.types.specs.declared.daybook.Closed.TheVariants as closed
 use Rattle.types.specs.declared.requests.Request.{Request}
 use Rattle.types.specs.declared.requests.Request.TheVariants as request
 use Rattle.types.specs.declared.requests.Refusal.TheVariants as refusal
-use Rattle.types.specs.declared.requests.Outcome.{Outcome}
-use Rattle.types.specs.declared.requests.Outcome.TheVariants as outcome
 use Rattle.types.specs.declared.machine.State.{State}
 use Rattle.types.specs.declared.machine.Input.{Input}
 use Rattle.types.specs.declared.machine.Settled.{Settled}
@@ -45,10 +42,10 @@ use Rattle.outline.proofs.Parts.{none_applies, cond_in, and_no, clash}
 use Rattle.outline.proofs.RangeWeighing.{ended_weighing}
 use Rattle.outline.proofs.ZeroStep.{Zeros, zeros_of, keyed_zeros, settled_zeros, none_keyed}
 
-weigh_contact : (s : Settings) (q : Stability) (w : Weighing) (raw : Raw) (contact : Bool) → (weigh_of s q w raw contact).contact ≡ contact
+weigh_contact : (s : Settings) (q : Stability) (w : Weighing) (raw : Option ℤ) (contact : Bool) → (weigh_of s q w raw contact).contact ≡ contact
 unfolding weigh_of
-weigh_contact s q w Bad contact = refl
-weigh_contact s q w (Tenths x) contact = refl
+weigh_contact s q w None contact = refl
+weigh_contact s q w (Some x) contact = refl
 
 -- ---- a closed tick
 closed_refused : (s : Settings) (st : State) (x : Weights) → x.contact ≡ true → done_of (ruling_of s st x request.Zero) ≡ false
@@ -60,7 +57,7 @@ closed_refused s st x h = go (done_of (ruling_of s st x request.Zero)) refl
     go false e = refl
 
 closed_eight : (s : Settings) (st : State) (x : Weights) → x.contact ≡ true → fit_of x ≡ true → idle_now st ≡ true
-    → ruling_of s st x request.Zero ≡ outcome.Refused refusal.ContactClosed
+    → ruling_of s st x request.Zero ≡ Err refusal.ContactClosed
 unfolding ruling_of
 closed_eight s st x c f i =
     let good = and_left x.good (not x.overload) f in
@@ -76,7 +73,7 @@ unfolding tracked_of
 tracked_closed s idle keyed x w h = simp (h, and_no)
 
 module _ (s : Settings) (st : State) (i : Input) (shut : i.contact ≡ true) where
-  abbrev raw₁ : Raw
+  abbrev raw₁ : Option ℤ
   raw₁ = raw_of s.calibration i.count
 
   abbrev st₂ : State
@@ -155,11 +152,11 @@ openly x = record {
   stable = x.stable;
 }
 
-weigh_openly : (s : Settings) (q : Stability) (w : Weighing) (raw : Raw) (contact : Bool)
+weigh_openly : (s : Settings) (q : Stability) (w : Weighing) (raw : Option ℤ) (contact : Bool)
     → openly (weigh_of s q w raw contact) ≡ weigh_of s q w raw false
 unfolding weigh_of
-weigh_openly s q w Bad contact = refl
-weigh_openly s q w (Tenths x) contact = refl
+weigh_openly s q w None contact = refl
+weigh_openly s q w (Some x) contact = refl
 
 ruled_openly : (s : Settings) (st : State) (b : Book) (x : Weights) (r : Request) → (r ≡ request.Zero → ⊥)
     → ruling_of s (with_book st b) x r ≡ ruling_of s st (openly x) r
@@ -185,7 +182,7 @@ beside_book a = record {
   state = with_book a.state open_book;
   held = a.held;
   keyed = a.keyed;
-  closed = closed.Nothing;
+  closed = None;
 }
 
 granted_openly : (st : State) (b : Book) (x : Weights) (r : Request)
@@ -209,13 +206,13 @@ decided_openly : (s : Settings) (st : State) (b : Book) (x : Weights) (r : Reque
     → beside_book (decided_of s (with_book st b) x r) ≡ beside_book (decided_of s st (openly x) r)
 unfolding decided_of
 decided_openly s st b x r n =
-    ap (λ (o : Outcome). beside_book (unless_refused o (with_book st b) (granted_of (with_book st b) x r))) (ruled_openly s st b x r n)
+    ap (λ (o : Result (Unit {0}) Refusal). beside_book (unless_refused o (with_book st b) (granted_of (with_book st b) x r))) (ruled_openly s st b x r n)
     ∙ go (ruling_of s st (openly x) r)
   where
-    go : (o : Outcome)
+    go : (o : Result (Unit {0}) Refusal)
         → beside_book (unless_refused o (with_book st b) (granted_of (with_book st b) x r)) ≡ beside_book (unless_refused o st (granted_of st (openly x) r))
-    go outcome.Done = ap (λ (a : Settled). beside_book (unless_refused outcome.Done st a)) (granted_openly st b x r)
-    go (outcome.Refused m) = refl
+    go (Ok tt) = ap (λ (a : Settled). beside_book (unless_refused (Ok tt) st a)) (granted_openly st b x r)
+    go (Err m) = refl
 
 -- steps 5 and 6: the contact alters what tracking leaves of the zero, and no more
 erase : State → ℤ → State
@@ -269,11 +266,11 @@ told_openly s a x st = λ j. record {
   near = near_of st.setpoints x;
   full = full_of s.batching.mode st.setpoints x;
   analog = analog_of s.board s.scale (displayed_openly a.state.panel.display x j) (fit_of x);
-  closed = closed.Nothing;
+  closed = None;
 }
 
 module _ (s : Settings) (st : State) (count : ℤ) (r : Request) (n : r ≡ request.Zero → ⊥) where
-  abbrev raw_at : Raw
+  abbrev raw_at : Option ℤ
   raw_at = raw_of s.calibration count
 
   abbrev at : Bool → Input

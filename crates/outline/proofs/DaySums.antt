@@ -1,4 +1,5 @@
 -- The book's sums are those of the day's good ticks, exactly: no sum meets the guard. And those sums balance. Assumes nothing.
+use Rattle.std.specs.Prelude.{None, Some, ℤ, ℕ}
 use Prim.Native.Nat.{ℕ, suc, ◌+◌, ◌*◌, ◌≤◌, min}
 use native.Mathlib.Nat as N
 use native.Mathlib.Omega.{arith}
@@ -10,7 +11,6 @@ use lib.IntN.{ℤ, pos, neg_ℤ, nat_abs, ◌+ℤ◌, ◌-ℤ◌}
 use borrow.Author.Tests.{leb-true, le-leb}
 use Rattle.whole.specs.Limit.{limit_plain}
 use Rattle.whole.specs.Ints.{ints, linear, int_elim, ints2, ints3, ints6, abs_add}
-use Rattle.types.specs.declared.weight.Raw.TheVariants.{Bad, Tenths}
 use Rattle.outline.specs.Limits.{day_ticks, raw_limit, rise_limit, book_limit}
 use Rattle.outline.specs.DayBook.{limit_of, booked_of, in_day, day_count, of_refill, later_good, book_of, closed_of}
 use Rattle.outline.specs.Day.{Good, rise_of, rises_of, early_of, filled_at, is_use, is_late, refilled_of, used_of, unbooked_of, opening_of, last_of, day_sums}
@@ -92,12 +92,12 @@ module _ (before : Good) (gs : List Good) (n : ℕ) (x : ℤ) (contact : Bool) (
         ticks = counted_by n early refl i;
       })
 
-pub book_good : (gs : List Good) (n : ℕ) (x : ℤ) (contact : Bool) → Bounded gs n → nat_abs x ≤ raw_limit → book_of (day_sums gs n) (Tenths x) contact ≡ day_sums (record { raw = x; contact = contact; number = suc n } ∷ gs) (suc n)
+pub book_good : (gs : List Good) (n : ℕ) (x : ℤ) (contact : Bool) → Bounded gs n → nat_abs x ≤ raw_limit → book_of (day_sums gs n) (Some x) contact ≡ day_sums (record { raw = x; contact = contact; number = suc n } ∷ gs) (suc n)
 unfolding book_of
 book_good [] n x contact b hx = simp (counted [] n, cond_same)
 book_good (before ∷ gs) n x contact b hx = later before gs n x contact b hx
 
-pub book_bad : (gs : List Good) (n : ℕ) (contact : Bool) → book_of (day_sums gs n) Bad contact ≡ day_sums gs (suc n)
+pub book_bad : (gs : List Good) (n : ℕ) (contact : Bool) → book_of (day_sums gs n) None contact ≡ day_sums gs (suc n)
 unfolding book_of
 book_bad gs n contact = simp (counted gs n)
 

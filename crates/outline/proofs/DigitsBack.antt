@@ -1,5 +1,6 @@
 -- Digits that were read, written again: six bytes that read as n are the six digits of n, so that the seven fields of SS are the 42
 -- digits of RS. Assumes nothing.
+use Rattle.std.specs.Prelude.{Option, None, Some, ℕ}
 use Prim.Native.Nat.{ℕ, suc, ◌+◌, ◌*◌, ◌-◌, ◌/◌, ◌%◌, ◌≤◌}
 use native.Mathlib.Nat.{add-zero, add-suc, suc-add, zero-add}
 use native.Mathlib.Omega.{arith}
@@ -11,9 +12,6 @@ use lib.ListN.{length, take, drop, length-drop}
 use lib.Seq.{append_snoc, length-take-le, take-add, drop-drop}
 use borrow.Author.Tests.{leb-true}
 use Rattle.types.specs.declared.stages.Setpoints.{Setpoints}
-use Rattle.types.specs.declared.lines.Digits.{Digits}
-use Rattle.types.specs.declared.lines.Digits.TheVariants.{Number, NotDigits}
-use Rattle.types.specs.declared.lines.Fields.TheVariants.{Points}
 use Rattle.outline.specs.Lines.{is_digit, number_from, field_of, seven_of, fields_of}
 use Rattle.outline.specs.Replies.{digits_of, points_text}
 use Rattle.whole.specs.Chains.{and_left, and_right}
@@ -29,67 +27,67 @@ digit_on k v x h =
     rw (front, last)
 
 -- v was read, and then xs: the number's digits are v's and xs
-digits_on : (xs : List ℕ) (k v n : ℕ) → number_from v xs ≡ Number n → digits_of (k + length xs) n ≡ digits_of k v ++ xs
+digits_on : (xs : List ℕ) (k v n : ℕ) → number_from v xs ≡ Some n → digits_of (k + length xs) n ≡ digits_of k v ++ xs
 digits_on [] k v n e =
     let same : v ≡ n = cc in
     rw (add-zero, same) (sym (append-nil (digits_of k n)))
 digits_on (x ∷ xs) k v n e = go (digits_on xs (suc k) (v * 10 + (x - 48)) n) (is_digit x) refl e
   where
-    go : (number_from (v * 10 + (x - 48)) xs ≡ Number n → digits_of (suc k + length xs) n ≡ digits_of (suc k) (v * 10 + (x - 48)) ++ xs)
-        → (t : Bool) → is_digit x ≡ t → cond t (number_from (v * 10 + (x - 48)) xs) NotDigits ≡ Number n → digits_of (k + suc (length xs)) n ≡ digits_of k v ++ (x ∷ xs)
+    go : (number_from (v * 10 + (x - 48)) xs ≡ Some n → digits_of (suc k + length xs) n ≡ digits_of (suc k) (v * 10 + (x - 48)) ++ xs)
+        → (t : Bool) → is_digit x ≡ t → cond t (number_from (v * 10 + (x - 48)) xs) None ≡ Some n → digits_of (k + suc (length xs)) n ≡ digits_of k v ++ (x ∷ xs)
     go rest true d e = rw (add-suc, ← suc-add) (rest e ∙ rw (digit_on k v x d) (append_snoc (digits_of k v) x xs))
     go rest false d e = let z : ◌≡◌ {A = ℕ} 0 1 = cc in absurd (omega arith)
 
-digits_back : (xs : List ℕ) (k n : ℕ) → length xs ≡ k → number_from 0 xs ≡ Number n → digits_of k n ≡ xs
+digits_back : (xs : List ℕ) (k n : ℕ) → length xs ≡ k → number_from 0 xs ≡ Some n → digits_of k n ≡ xs
 unfolding digits_of
 digits_back xs k n l e = rw (← l, ← zero-add (length xs)) (digits_on xs 0 0 n e)
 
 -- a field that read as n is n's six digits
-field_back : (line : List ℕ) (at n : ℕ) → field_of line at ≡ Number n → digits_of 6 n ≡ take 6 (drop at line)
+field_back : (line : List ℕ) (at n : ℕ) → field_of line at ≡ Some n → digits_of 6 n ≡ take 6 (drop at line)
 unfolding field_of
 field_back line at n = go (leb (at + 6) (length line)) refl
   where
-    go : (t : Bool) → leb (at + 6) (length line) ≡ t → cond t (number_from 0 (take 6 (drop at line))) NotDigits ≡ Number n → digits_of 6 n ≡ take 6 (drop at line)
+    go : (t : Bool) → leb (at + 6) (length line) ≡ t → cond t (number_from 0 (take 6 (drop at line))) None ≡ Some n → digits_of 6 n ≡ take 6 (drop at line)
     go true h e =
         let room : 6 ≤ length (drop at line) = rw length-drop (omega (arith, leb-true (at + 6) (length line) h)) in
         digits_back (take 6 (drop at line)) 6 n (length-take-le 6 (drop at line) room) e
     go false h e = let z : ◌≡◌ {A = ℕ} 0 1 = cc in absurd (omega arith)
 
 -- seven fields that read as p: each read as its number
-record Read (a b c d e f g : Digits) (p : Setpoints) : Type 0 where
-  target : a ≡ Number p.target
-  fall : b ≡ Number p.fall
-  preliminary : c ≡ Number p.preliminary
-  optional : d ≡ Number p.optional
-  over : e ≡ Number p.over
-  under : f ≡ Number p.under
-  near : g ≡ Number p.near
+record Read (a b c d e f g : Option ℕ) (p : Setpoints) : Type 0 where
+  target : a ≡ Some p.target
+  fall : b ≡ Some p.fall
+  preliminary : c ≡ Some p.preliminary
+  optional : d ≡ Some p.optional
+  over : e ≡ Some p.over
+  under : f ≡ Some p.under
+  near : g ≡ Some p.near
 
-read : (a b c d e f g : Digits) (p : Setpoints) → seven_of a b c d e f g ≡ Points p → Read a b c d e f g p
-read (Number a) (Number b) (Number c) (Number d) (Number e) (Number f) (Number g) p h =
+read : (a b c d e f g : Option ℕ) (p : Setpoints) → seven_of a b c d e f g ≡ Some p → Read a b c d e f g p
+read (Some a) (Some b) (Some c) (Some d) (Some e) (Some f) (Some g) p h =
     let q : record { target = a; fall = b; preliminary = c; optional = d; over = e; under = f; near = g } ≡ p = cc in
     record {
-      target = ap (λ (p : Setpoints). Number p.target) q;
-      fall = ap (λ (p : Setpoints). Number p.fall) q;
-      preliminary = ap (λ (p : Setpoints). Number p.preliminary) q;
-      optional = ap (λ (p : Setpoints). Number p.optional) q;
-      over = ap (λ (p : Setpoints). Number p.over) q;
-      under = ap (λ (p : Setpoints). Number p.under) q;
-      near = ap (λ (p : Setpoints). Number p.near) q;
+      target = ap (λ (p : Setpoints). Some p.target) q;
+      fall = ap (λ (p : Setpoints). Some p.fall) q;
+      preliminary = ap (λ (p : Setpoints). Some p.preliminary) q;
+      optional = ap (λ (p : Setpoints). Some p.optional) q;
+      over = ap (λ (p : Setpoints). Some p.over) q;
+      under = ap (λ (p : Setpoints). Some p.under) q;
+      near = ap (λ (p : Setpoints). Some p.near) q;
     }
-read (Number a) (Number b) (Number c) (Number d) (Number e) (Number f) NotDigits p h = let z : ◌≡◌ {A = ℕ} 0 1 = cc in absurd (omega arith)
-read (Number a) (Number b) (Number c) (Number d) (Number e) NotDigits g p h = let z : ◌≡◌ {A = ℕ} 0 1 = cc in absurd (omega arith)
-read (Number a) (Number b) (Number c) (Number d) NotDigits f g p h = let z : ◌≡◌ {A = ℕ} 0 1 = cc in absurd (omega arith)
-read (Number a) (Number b) (Number c) NotDigits e f g p h = let z : ◌≡◌ {A = ℕ} 0 1 = cc in absurd (omega arith)
-read (Number a) (Number b) NotDigits d e f g p h = let z : ◌≡◌ {A = ℕ} 0 1 = cc in absurd (omega arith)
-read (Number a) NotDigits c d e f g p h = let z : ◌≡◌ {A = ℕ} 0 1 = cc in absurd (omega arith)
-read NotDigits b c d e f g p h = let z : ◌≡◌ {A = ℕ} 0 1 = cc in absurd (omega arith)
+read (Some a) (Some b) (Some c) (Some d) (Some e) (Some f) None p h = let z : ◌≡◌ {A = ℕ} 0 1 = cc in absurd (omega arith)
+read (Some a) (Some b) (Some c) (Some d) (Some e) None g p h = let z : ◌≡◌ {A = ℕ} 0 1 = cc in absurd (omega arith)
+read (Some a) (Some b) (Some c) (Some d) None f g p h = let z : ◌≡◌ {A = ℕ} 0 1 = cc in absurd (omega arith)
+read (Some a) (Some b) (Some c) None e f g p h = let z : ◌≡◌ {A = ℕ} 0 1 = cc in absurd (omega arith)
+read (Some a) (Some b) None d e f g p h = let z : ◌≡◌ {A = ℕ} 0 1 = cc in absurd (omega arith)
+read (Some a) None c d e f g p h = let z : ◌≡◌ {A = ℕ} 0 1 = cc in absurd (omega arith)
+read None b c d e f g p h = let z : ◌≡◌ {A = ℕ} 0 1 = cc in absurd (omega arith)
 
 -- six bytes more of a line
 six_on : (line xs ys : List ℕ) (at n : ℕ) → xs ≡ take n (drop at line) → ys ≡ take 6 (drop (at + n) line) → xs ++ ys ≡ take (n + 6) (drop at line)
 six_on line xs ys at n p q = rw (p, q, take-add, drop-drop)
 
-pub fields_back : (line : List ℕ) (at : ℕ) (p : Setpoints) → fields_of line at ≡ Points p → points_text p ≡ take 42 (drop at line)
+pub fields_back : (line : List ℕ) (at : ℕ) (p : Setpoints) → fields_of line at ≡ Some p → points_text p ≡ take 42 (drop at line)
 unfolding fields_of points_text
 fields_back line at p e =
     let r = read (field_of line at) (field_of line (at + 6)) (field_of line (at + 12)) (field_of line (at + 18)) (field_of line (at + 24)) (field_of line (at + 30)) (field_of line (at + 36)) p e in

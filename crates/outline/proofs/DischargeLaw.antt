@@ -1,5 +1,6 @@
 -- A discharge and the feed: never open together, in any state; and a discharge is no batch: it leaves the totals and the judgement.
 -- Assumes nothing.
+use Rattle.std.specs.Prelude.{Option, None, Some, Result, Ok, ℤ, ℕ}
 use Prim.Native.Nat.{ℕ}
 use mathlib.Core.Path.{◌≡◌, refl, ap, ◌∙◌}
 use mathlib.Core.Bool.{Bool, true, false, cond, not, ◌&&◌, ◌||◌}
@@ -7,21 +8,18 @@ use lib.Dec.{leb, eqb}
 use lib.ListN.{length}
 use lib.IntN.{ℤ}
 use borrow.Author.Tests.{not-false}
+use Rattle.types.specs.declared.requests.Refusal.{Refusal}
 use Rattle.types.specs.declared.settings.Batching.{Batching}
 use Rattle.types.specs.declared.settings.Settings.{Settings}
 use Rattle.types.specs.declared.weight.Weights.{Weights}
 use Rattle.types.specs.declared.requests.Request.{Request}
 use Rattle.types.specs.declared.requests.Request.TheVariants as request
-use Rattle.types.specs.declared.requests.Outcome.{Outcome}
-use Rattle.types.specs.declared.requests.Outcome.TheVariants as outcome
 use Rattle.types.specs.declared.stages.Setpoints.{Setpoints}
 use Rattle.types.specs.declared.stages.Stage.{Stage}
 use Rattle.types.specs.declared.stages.Stage.TheVariants.{Idle, StartDelay, LargeDisable, LargeFlow, MediumDisable, MediumFlow, SmallDisable, SmallFlow, JudgeDelay, JudgeWait, DischargeStart, Discharge, DischargeEnd}
 use Rattle.types.specs.declared.stages.Judgement.{Judgement}
 use Rattle.types.specs.declared.stages.Sequence.{Sequence}
 use Rattle.types.specs.declared.stages.Facts.{Facts}
-use Rattle.types.specs.declared.stages.Timing.{Timing}
-use Rattle.types.specs.declared.stages.Timing.TheVariants as timing
 use Rattle.types.specs.declared.stages.Move.{Move}
 use Rattle.types.specs.declared.stages.Move.TheVariants.{To, Fail, Finish, Emptied}
 use Rattle.types.specs.declared.stages.Advanced.{Advanced}
@@ -100,9 +98,9 @@ Unjudged (Fail e) = Unit {0}
 Unjudged (Finish j) = ⊥
 Unjudged Emptied = Unit {0}
 
-timed_unjudged : (t : Timing) (stay : ℕ → Stage) (m : Move) → Unjudged m → Unjudged (timed t stay m)
-timed_unjudged timing.Over stay m u = u
-timed_unjudged (timing.Still t) stay m u = tt
+timed_unjudged : (t : Option ℕ) (stay : ℕ → Stage) (m : Move) → Unjudged m → Unjudged (timed t stay m)
+timed_unjudged None stay m u = u
+timed_unjudged (Some t) stay m u = tt
 
 until_unjudged : (t : Bool) (stay : Stage) (m : Move) → Unjudged m → Unjudged (until t stay m)
 until_unjudged true stay m u = u
@@ -233,17 +231,17 @@ goes_on s st i d =
     }
 
 -- the tick that begins it, settled
-begun : (st : State) (x : Weights) (r : Request) → r ≡ request.Discharge → (o : Outcome) → o ≡ outcome.Done
+begun : (st : State) (x : Weights) (r : Request) → r ≡ request.Discharge → (o : Result (Unit {0}) Refusal) → o ≡ Ok tt
     → Left st.sequence (done_of o && (granted_of st x r).held) (cond (done_of o) (granted_of st x r).state.sequence st.sequence)
 unfolding granted_of
 begun st x r er o eo = rw (er, eo) (record { judgement = refl; under_way = λ e. absurd (clash refl e) })
 
-settled_begun : (s : Settings) (st : State) (i : Input) → i.request ≡ request.Discharge → (settled_of s st i).outcome ≡ outcome.Done
+settled_begun : (s : Settings) (st : State) (i : Input) → i.request ≡ request.Discharge → (settled_of s st i).outcome ≡ Ok tt
     → Left st.sequence (settled_of s st i).held (settled_of s st i).state.sequence
 unfolding settled_of decided_of entered_of
 settled_begun s st i er eo = begun _ _ i.request er _ eo
 
-begins : (s : Settings) (st : State) (i : Input) → i.request ≡ request.Discharge → (settled_of s st i).outcome ≡ outcome.Done → Kept s st i
+begins : (s : Settings) (st : State) (i : Input) → i.request ≡ request.Discharge → (settled_of s st i).outcome ≡ Ok tt → Kept s st i
 unfolding next_of
 begins s st i er eo =
     let left = settled_begun s st i er eo in

@@ -1,11 +1,10 @@
 -- A6 narrows no range: the states that the program before it could reach are in range, and their days balance. Assumes nothing.
+use Rattle.std.specs.Prelude.{Option, None, Some, ℤ}
 use mathlib.Core.Path.{◌≡◌, refl, sym, ap, ◌∙◌}
 use mathlib.Core.Bool.{Bool, true, false, cond}
 use mathlib.Core.List.{List, [], ◌∷◌, foldl}
 use lib.IntN.{ℤ}
 use Rattle.types.specs.declared.settings.Settings.{Settings}
-use Rattle.types.specs.declared.weight.Raw.{Raw}
-use Rattle.types.specs.declared.weight.Raw.TheVariants.{Bad, Tenths}
 use Rattle.types.specs.declared.daybook.Book.{Book}
 use Rattle.types.specs.declared.machine.State.{State}
 use Rattle.types.specs.declared.machine.Input.{Input}
@@ -21,7 +20,7 @@ use Rattle.outline.proofs.RangeBook.{tick_book, tick_balanced}
 use Rattle.outline.proofs.RangeRun.{open_in, tick_in, from_range}
 
 -- whatever the contact, a good tick begins the book
-begins : (b : Book) (x : ℤ) (contact : Bool) → (book_of b (Tenths x) contact).begun ≡ true
+begins : (b : Book) (x : ℤ) (contact : Bool) → (book_of b (Some x) contact).begun ≡ true
 unfolding book_of later_good
 begins b x contact = go b.begun
   where
@@ -29,11 +28,11 @@ begins b x contact = go b.begun
     go true = refl
     go false = refl
 
-begun_alike : (raw : Raw) (contact closes : Bool) (b : Book) → (step.book_tick raw contact closes b).begun ≡ (step.book_tick raw false closes b).begun
+begun_alike : (raw : Option ℤ) (contact closes : Bool) (b : Book) → (step.book_tick raw contact closes b).begun ≡ (step.book_tick raw false closes b).begun
 unfolding book_of closed_of
-begun_alike Bad contact closes b = refl
-begun_alike (Tenths x) contact true b = begins b x contact ∙ sym (begins b x false)
-begun_alike (Tenths x) contact false b = begins b x contact ∙ sym (begins b x false)
+begun_alike None contact closes b = refl
+begun_alike (Some x) contact true b = begins b x contact ∙ sym (begins b x false)
+begun_alike (Some x) contact false b = begins b x contact ∙ sym (begins b x false)
 
 tick_begun : (s : Settings) (st : State) (i : Input) → (earlier_tick s st i).book.begun ≡ (earlier_tick s st (contact_open i)).book.begun
 tick_begun s st i =

@@ -1,5 +1,6 @@
 -- When a batch finishes: step 6 finishes one in exactly the ticks of which the ledger says so, and with the weight that it says.
 -- Assumes nothing.
+use Rattle.std.specs.Prelude.{Option, None, Some, ℕ}
 use mathlib.Core.Path.{◌≡◌, refl, ◌∙◌}
 use mathlib.Core.Bool.{Bool, true, false, cond, not, ◌&&◌}
 use Prim.Native.Nat.{ℕ, suc}
@@ -17,8 +18,6 @@ use Rattle.types.specs.declared.stages.Stage.TheVariants.{Idle, StartDelay, Larg
 use Rattle.types.specs.declared.stages.SequenceError.TheVariants as error
 use Rattle.types.specs.declared.stages.Sequence.{Sequence}
 use Rattle.types.specs.declared.stages.Facts.{Facts}
-use Rattle.types.specs.declared.stages.Timing.{Timing}
-use Rattle.types.specs.declared.stages.Timing.TheVariants as timing
 use Rattle.types.specs.declared.stages.Move.{Move}
 use Rattle.types.specs.declared.stages.Move.TheVariants.{To, Fail, Finish, Emptied}
 use Rattle.types.specs.declared.stages.Advanced.{Advanced}
@@ -99,9 +98,9 @@ landed q (Fail e) = refl
 landed q (Finish j) = refl
 landed q Emptied = refl
 
-after_timed : (t : Timing) (stay : ℕ → Stage) (m : Move) → is_finish m ≡ false → is_finish (timed t stay m) ≡ false
-after_timed timing.Over stay m e = e
-after_timed (timing.Still t) stay m e = refl
+after_timed : (t : Option ℕ) (stay : ℕ → Stage) (m : Move) → is_finish m ≡ false → is_finish (timed t stay m) ≡ false
+after_timed None stay m e = e
+after_timed (Some t) stay m e = refl
 
 after_until : (t : Bool) (stay : Stage) (m : Move) → is_finish (until t stay m) ≡ t && is_finish m
 after_until true stay m = refl

@@ -1,5 +1,6 @@
 -- Setpoints read back on the line: the reply due to RS is the figures of SS, by the outline's law, and with room it is what the buffer
 -- holds. Assumes nothing.
+use Rattle.std.specs.Prelude.{Result, Ok, ℤ, ℕ}
 use Prim.Native.Nat.{ℕ, ◌≤◌}
 use mathlib.Core.Path.{◌≡◌, ap}
 use mathlib.Core.Bool.{Bool, true}
@@ -7,18 +8,19 @@ use mathlib.Core.List.{List}
 use lib.ListN.{length}
 use lib.IntN.{ℤ}
 use borrow.Author.Tests.{le-leb}
+use Rattle.types.specs.declared.requests.Refusal.{Refusal}
 use Rattle.types.specs.declared.settings.Settings.{Settings}
 use Rattle.types.specs.declared.requests.Request.{Request}
 use Rattle.types.specs.declared.requests.Request.TheVariants as request
-use Rattle.types.specs.declared.requests.Outcome.{Outcome}
-use Rattle.types.specs.declared.requests.Outcome.TheVariants as outcome
 use Rattle.types.specs.declared.weight.Weights.{Weights}
 use Rattle.types.specs.declared.machine.State.{State}
 use Rattle.types.specs.declared.machine.Input.{Input}
 use Rattle.types.specs.declared.lines.Word.TheVariants as word
-use Rattle.types.specs.declared.lines.Command.{Command}
-use Rattle.types.specs.declared.lines.Command.TheVariants as command
-use Rattle.types.specs.declared.lines.LineAnswer.TheVariants as told
+use Rattle.types.specs.declared.lines.Order.{Order}
+use Rattle.types.specs.declared.lines.LineFault.{LineFault}
+use Rattle.types.specs.declared.lines.Order.TheVariants as order
+use Rattle.types.specs.declared.lines.LineFault.TheVariants as fault
+use Rattle.types.specs.declared.lines.LineRefusal.TheVariants as told
 use Rattle.outline.specs.Requests.{ruling_of, decided_of}
 use Rattle.outline.specs.Tick.{settled_of}
 use Rattle.outline.specs.Lines.{command_of}
@@ -29,25 +31,25 @@ use Rattle.outline.specs.EveryLine.{is_fitting, Replied, ReadBackOnLine}
 use Rattle.outline.proofs.LineEnds.{fits, fits-bytes}
 
 -- a tick that asks for nothing is answered 0
-by_nothing : (s : Settings) (st : State) (x : Weights) (r : Request) → r ≡ request.Nothing → (decided_of s st x r).outcome ≡ outcome.Done
+by_nothing : (s : Settings) (st : State) (x : Weights) (r : Request) → r ≡ request.Nothing → (decided_of s st x r).outcome ≡ Ok tt
 unfolding decided_of ruling_of
 by_nothing s st x r e = rw e
 
-settled_nothing : (s : Settings) (st : State) (i : Input) → i.request ≡ request.Nothing → (settled_of s st i).outcome ≡ outcome.Done
+settled_nothing : (s : Settings) (st : State) (i : Input) → i.request ≡ request.Nothing → (settled_of s st i).outcome ≡ Ok tt
 unfolding settled_of
 settled_nothing s st i e = by_nothing s _ _ i.request e
 
-read_asks_nothing : (c : Command) → c ≡ command.Do word.ReadSetpoints → request_of c ≡ request.Nothing
+read_asks_nothing : (c : Result Order LineFault) → c ≡ Ok (order.Do word.ReadSetpoints) → request_of c ≡ request.Nothing
 unfolding request_of
 read_asks_nothing c e = rw e
 
-read_told : (c : Command) (o : Outcome) → c ≡ command.Do word.ReadSetpoints → o ≡ outcome.Done → told_of c o ≡ told.Done
+read_told : (c : Result Order LineFault) (o : Result (Unit {0}) Refusal) → c ≡ Ok (order.Do word.ReadSetpoints) → o ≡ Ok tt → told_of c o ≡ Ok tt
 unfolding told_of
 read_told c o e d = rw (e, d)
 
 -- RS with room for the text that is due
 module _ (s : Settings) (st : State) (count : ℤ) (contact : Bool) (receive buffer text : List ℕ)
-    (e : command_of receive s.address ≡ command.Do word.ReadSetpoints)
+    (e : command_of receive s.address ≡ Ok (order.Do word.ReadSetpoints))
     (due : due_text s st count contact receive ≡ text) (room : length text ≤ length buffer) where
   fitting : is_fitting s st count contact receive buffer ≡ true
   fitting = rw due (le-leb (length text) (length buffer) room)

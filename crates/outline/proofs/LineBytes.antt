@@ -1,4 +1,5 @@
 -- The reply's length, and the bytes that stay: by the two ways a tick with a line ends. Assumes nothing.
+use Rattle.std.specs.Prelude.{Result, Ok, Err, ℤ, ℕ}
 use Prim.Native.Nat.{ℕ}
 use native.Mathlib.Omega.{arith}
 use mathlib.Core.Path.{◌≡◌, refl}
@@ -8,43 +9,44 @@ use lib.ListN.{length, drop, length-append, length-drop}
 use lib.Seq.{drop-append_seam}
 use lib.IntN.{ℤ}
 use borrow.Author.Tests.{leb-true}
+use Rattle.types.specs.declared.requests.Refusal.{Refusal}
 use Rattle.types.specs.declared.settings.Settings.{Settings}
-use Rattle.types.specs.declared.requests.Outcome.{Outcome}
-use Rattle.types.specs.declared.requests.Outcome.TheVariants as outcome
 use Rattle.types.specs.declared.machine.State.{State}
 use Rattle.types.specs.declared.lines.LineKind.TheVariants as kind
-use Rattle.types.specs.declared.lines.Command.{Command}
-use Rattle.types.specs.declared.lines.Command.TheVariants as command
-use Rattle.types.specs.declared.lines.LineAnswer.TheVariants as told
+use Rattle.types.specs.declared.lines.Order.{Order}
+use Rattle.types.specs.declared.lines.LineFault.{LineFault}
+use Rattle.types.specs.declared.lines.Order.TheVariants as order
+use Rattle.types.specs.declared.lines.LineFault.TheVariants as fault
+use Rattle.types.specs.declared.lines.LineRefusal.TheVariants as told
 use Rattle.outline.specs.Lines.{kind_of, command_of}
 use Rattle.outline.specs.Replies.{told_of, due_text, line_tick_of, reply_buffer}
 use Rattle.outline.specs.EveryLine.{is_fitting, Bounded, ReplyBounded, Empty, BytesStay}
 use Rattle.outline.proofs.LineEnds.{is_silent, due_short, due_silent, fits, fits-bytes, lacks, lacks-bytes, empty}
 
 -- ---- which lines are told so
-other_address_silent : (c : Command) (o : Outcome) → told_of c o ≡ told.OtherAddress → is_silent c ≡ true
+other_address_silent : (c : Result Order LineFault) (o : Result (Unit {0}) Refusal) → told_of c o ≡ Err told.OtherAddress → is_silent c ≡ true
 unfolding told_of
-other_address_silent (command.Do w) outcome.Done e = let z : ◌≡◌ {A = ℕ} 0 1 = cc in absurd (omega arith)
-other_address_silent (command.Do w) (outcome.Refused n) e = let z : ◌≡◌ {A = ℕ} 0 1 = cc in absurd (omega arith)
-other_address_silent (command.Set p) outcome.Done e = let z : ◌≡◌ {A = ℕ} 0 1 = cc in absurd (omega arith)
-other_address_silent (command.Set p) (outcome.Refused n) e = let z : ◌≡◌ {A = ℕ} 0 1 = cc in absurd (omega arith)
-other_address_silent command.NoLine o e = refl
-other_address_silent command.LongLine o e = refl
-other_address_silent command.OtherAddress o e = refl
-other_address_silent command.Malformed o e = let z : ◌≡◌ {A = ℕ} 0 1 = cc in absurd (omega arith)
-other_address_silent command.Unknown o e = let z : ◌≡◌ {A = ℕ} 0 1 = cc in absurd (omega arith)
+other_address_silent (Ok (order.Do w)) (Ok tt) e = let z : ◌≡◌ {A = ℕ} 0 1 = cc in absurd (omega arith)
+other_address_silent (Ok (order.Do w)) (Err n) e = let z : ◌≡◌ {A = ℕ} 0 1 = cc in absurd (omega arith)
+other_address_silent (Ok (order.Set p)) (Ok tt) e = let z : ◌≡◌ {A = ℕ} 0 1 = cc in absurd (omega arith)
+other_address_silent (Ok (order.Set p)) (Err n) e = let z : ◌≡◌ {A = ℕ} 0 1 = cc in absurd (omega arith)
+other_address_silent (Err fault.NoLine) o e = refl
+other_address_silent (Err fault.LongLine) o e = refl
+other_address_silent (Err fault.OtherAddress) o e = refl
+other_address_silent (Err fault.Malformed) o e = let z : ◌≡◌ {A = ℕ} 0 1 = cc in absurd (omega arith)
+other_address_silent (Err fault.Unknown) o e = let z : ◌≡◌ {A = ℕ} 0 1 = cc in absurd (omega arith)
 
-never_short : (c : Command) (o : Outcome) → told_of c o ≡ told.ShortBuffer → ⊥
+never_short : (c : Result Order LineFault) (o : Result (Unit {0}) Refusal) → told_of c o ≡ Err told.ShortBuffer → ⊥
 unfolding told_of
-never_short (command.Do w) outcome.Done e = let z : ◌≡◌ {A = ℕ} 0 1 = cc in omega arith
-never_short (command.Do w) (outcome.Refused n) e = let z : ◌≡◌ {A = ℕ} 0 1 = cc in omega arith
-never_short (command.Set p) outcome.Done e = let z : ◌≡◌ {A = ℕ} 0 1 = cc in omega arith
-never_short (command.Set p) (outcome.Refused n) e = let z : ◌≡◌ {A = ℕ} 0 1 = cc in omega arith
-never_short command.NoLine o e = let z : ◌≡◌ {A = ℕ} 0 1 = cc in omega arith
-never_short command.LongLine o e = let z : ◌≡◌ {A = ℕ} 0 1 = cc in omega arith
-never_short command.OtherAddress o e = let z : ◌≡◌ {A = ℕ} 0 1 = cc in omega arith
-never_short command.Malformed o e = let z : ◌≡◌ {A = ℕ} 0 1 = cc in omega arith
-never_short command.Unknown o e = let z : ◌≡◌ {A = ℕ} 0 1 = cc in omega arith
+never_short (Ok (order.Do w)) (Ok tt) e = let z : ◌≡◌ {A = ℕ} 0 1 = cc in omega arith
+never_short (Ok (order.Do w)) (Err n) e = let z : ◌≡◌ {A = ℕ} 0 1 = cc in omega arith
+never_short (Ok (order.Set p)) (Ok tt) e = let z : ◌≡◌ {A = ℕ} 0 1 = cc in omega arith
+never_short (Ok (order.Set p)) (Err n) e = let z : ◌≡◌ {A = ℕ} 0 1 = cc in omega arith
+never_short (Err fault.NoLine) o e = let z : ◌≡◌ {A = ℕ} 0 1 = cc in omega arith
+never_short (Err fault.LongLine) o e = let z : ◌≡◌ {A = ℕ} 0 1 = cc in omega arith
+never_short (Err fault.OtherAddress) o e = let z : ◌≡◌ {A = ℕ} 0 1 = cc in omega arith
+never_short (Err fault.Malformed) o e = let z : ◌≡◌ {A = ℕ} 0 1 = cc in omega arith
+never_short (Err fault.Unknown) o e = let z : ◌≡◌ {A = ℕ} 0 1 = cc in omega arith
 
 no_line_silent : (receive : List ℕ) (address : ℕ) → kind_of receive ≡ kind.NoLine → is_silent (command_of receive address) ≡ true
 unfolding command_of
@@ -69,7 +71,7 @@ module _ (s : Settings) (st : State) (count : ℤ) (contact : Bool) (receive buf
   silent : is_silent (command_of receive s.address) ≡ true → Empty s st count contact receive buffer
   silent e = empty s st count contact receive buffer (due_silent s st count contact receive e)
 
-  other_address : (t : Bool) → is_fitting s st count contact receive buffer ≡ t → (line_tick_of s st count contact receive buffer).told ≡ told.OtherAddress
+  other_address : (t : Bool) → is_fitting s st count contact receive buffer ≡ t → (line_tick_of s st count contact receive buffer).told ≡ Err told.OtherAddress
       → Empty s st count contact receive buffer
   other_address true e h = silent (other_address_silent _ _ (rw (fits s st count contact receive buffer e) at h))
   other_address false e h =
@@ -77,7 +79,7 @@ module _ (s : Settings) (st : State) (count : ℤ) (contact : Bool) (receive buf
       let z : ◌≡◌ {A = ℕ} 0 1 = cc in
       absurd (omega arith)
 
-  short_buffer : (t : Bool) → is_fitting s st count contact receive buffer ≡ t → (line_tick_of s st count contact receive buffer).told ≡ told.ShortBuffer
+  short_buffer : (t : Bool) → is_fitting s st count contact receive buffer ≡ t → (line_tick_of s st count contact receive buffer).told ≡ Err told.ShortBuffer
       → Empty s st count contact receive buffer
   short_buffer true e h = absurd (never_short _ _ (rw (fits s st count contact receive buffer e) at h))
   short_buffer false e h = record { none = rw (lacks s st count contact receive buffer e); bytes = lacks-bytes s st count contact receive buffer e }

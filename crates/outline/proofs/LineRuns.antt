@@ -1,20 +1,22 @@
 -- What holds of the answer of a run's tick holds of that of a tick with a line: the gates, and the day that a DC closes. Assumes nothing.
+use Rattle.std.specs.Prelude.{Option, Result, Ok, ℕ}
 use Prim.Native.Nat.{ℕ}
 use native.Mathlib.Omega.{arith}
 use mathlib.Core.Path.{◌≡◌, sym, subst}
 use mathlib.Core.Bool.{Bool, true, false, cond}
 use lib.Dec.{leb}
 use lib.ListN.{length}
-use Rattle.types.specs.declared.daybook.Closed.{Closed}
+use Rattle.types.specs.declared.requests.Refusal.{Refusal}
+use Rattle.types.specs.declared.daybook.Book.{Book}
 use Rattle.types.specs.declared.requests.Request.TheVariants as request
-use Rattle.types.specs.declared.requests.Outcome.{Outcome}
-use Rattle.types.specs.declared.requests.Outcome.TheVariants as outcome
 use Rattle.types.specs.declared.stages.SequenceError.TheVariants as error
 use Rattle.types.specs.declared.machine.Answer.{Answer}
 use Rattle.types.specs.declared.lines.Word.TheVariants as word
-use Rattle.types.specs.declared.lines.Command.{Command}
-use Rattle.types.specs.declared.lines.Command.TheVariants as command
-use Rattle.types.specs.declared.lines.LineAnswer.TheVariants as told
+use Rattle.types.specs.declared.lines.Order.{Order}
+use Rattle.types.specs.declared.lines.LineFault.{LineFault}
+use Rattle.types.specs.declared.lines.Order.TheVariants as order
+use Rattle.types.specs.declared.lines.LineFault.TheVariants as fault
+use Rattle.types.specs.declared.lines.LineRefusal.TheVariants as told
 use Rattle.types.specs.declared.lines.LineTick.{LineTick}
 use Rattle.outline.specs.Stages.{shut}
 use Rattle.outline.specs.Tick.{outputs_of, tick_of}
@@ -31,17 +33,17 @@ gates_on_line law runs s ok h count contact receive buffer =
     (law s ok h (line_input s (run_of s h) count contact receive buffer))
 
 -- ---- the day that a DC closes
-close_asks : (c : Command) → c ≡ command.Do word.DayClose → request_of c ≡ request.DayClose
+close_asks : (c : Result Order LineFault) → c ≡ Ok (order.Do word.DayClose) → request_of c ≡ request.DayClose
 unfolding request_of
 close_asks c e = rw e
 
-close_told : (c : Command) (o : Outcome) → c ≡ command.Do word.DayClose → told_of c o ≡ told.Done → o ≡ outcome.Done
+close_told : (c : Result Order LineFault) (o : Result (Unit {0}) Refusal) → c ≡ Ok (order.Do word.DayClose) → told_of c o ≡ Ok tt → o ≡ Ok tt
 unfolding told_of
 close_told c o e d = told_done o (rw e at d)
 
 -- where the reply does not fit, the line is not told so
-fitted : (t : Bool) (a b : LineTick) (day : Closed) → (a.told ≡ told.Done → a.answer.closed ≡ day) → (b.told ≡ told.Done → ⊥)
-    → (cond t a b).told ≡ told.Done → (cond t a b).answer.closed ≡ day
+fitted : (t : Bool) (a b : LineTick) (day : Option Book) → (a.told ≡ Ok tt → a.answer.closed ≡ day) → (b.told ≡ Ok tt → ⊥)
+    → (cond t a b).told ≡ Ok tt → (cond t a b).answer.closed ≡ day
 fitted true a b day done never d = done d
 fitted false a b day done never d = absurd (never d)
 

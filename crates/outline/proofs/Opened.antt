@@ -1,4 +1,5 @@
 -- What is known of accepted settings, row by row of the table. Assumes nothing.
+use Rattle.std.specs.Prelude.{None, Some, ℤ, ℕ}
 use Prim.Native.Nat.{ℕ, ◌*◌, ◌≤◌}
 use native.Mathlib.Omega.{arith}
 use mathlib.Core.Path.{◌≡◌, refl, subst}
@@ -11,7 +12,6 @@ use Rattle.whole.specs.Ints.{ints, linear, ints3}
 use Rattle.types.specs.declared.settings.Given.{Given}
 use Rattle.types.specs.declared.settings.Calibration.{Calibration}
 use Rattle.types.specs.declared.settings.Settings.{Settings}
-use Rattle.types.specs.declared.settings.Opening.TheVariants as opening
 use Rattle.outline.specs.Limits.{count_limit, capacity_limit}
 use Rattle.outline.specs.Settings.{from_to, within, counts_fit, capacity_fits, division_fits, zero_range_fits, tracking_fits, stability_fits, mode_fits, delays_fit, flow_fits, address_fits, analog_fits, discharge_fits, settings_fit, settings_of, open_of}
 use Rattle.outline.specs.Owed.{Accepted}
@@ -22,11 +22,11 @@ pub record Passed (g : Given) (s : Settings) : Type 0 where
   pub fit : settings_fit g ≡ true
   pub made : settings_of g ≡ s
 
-pub passed : (g : Given) (s : Settings) → open_of g ≡ opening.Accepted s → Passed g s
+pub passed : (g : Given) (s : Settings) → open_of g ≡ Some s → Passed g s
 unfolding open_of
 passed g s = go (settings_fit g) refl
   where
-    go : (t : Bool) → settings_fit g ≡ t → cond t (opening.Accepted (settings_of g)) opening.Refused ≡ opening.Accepted s → Passed g s
+    go : (t : Bool) → settings_fit g ≡ t → cond t (Some (settings_of g)) None ≡ Some s → Passed g s
     go true fit e = record { fit = fit; made = cc }
     go false fit e = let z : ◌≡◌ {A = ℕ} 0 1 = cc in absurd (omega arith)
 

@@ -1,12 +1,12 @@
 -- Small laws of tests, choices and whole numbers, for the proofs over runs: what a tick does to one part of the state, whatever it does
 -- to the others. Assumes nothing.
+use Rattle.std.specs.Prelude.{Err, ℤ}
 use mathlib.Core.Path.{◌≡◌, refl, sym, ◌∙◌, subst}
 use mathlib.Core.Bool.{Bool, true, false, cond, not, ◌&&◌}
 use mathlib.Core.List.{List, [], ◌∷◌}
 use lib.Dec.{T}
 use lib.IntN.{ℤ, pos, ◌+ℤ◌}
 use Rattle.whole.specs.Ints.{ints, linear, int_elim}
-use Rattle.types.specs.declared.requests.Outcome.TheVariants as outcome
 use Rattle.outline.specs.Requests.{Row, first_of, done_of}
 
 pub cond_same : {A : Type 0} (t : Bool) (a : A) → cond t a a ≡ a
@@ -48,7 +48,7 @@ pub none_applies : (rs : List Row) → done_of (first_of rs) ≡ true → NoneAp
 none_applies [] e = tt
 none_applies (r ∷ rs) e = go r.applies refl (none_applies rs) e
   where
-    go : (t : Bool) → r.applies ≡ t → (done_of (first_of rs) ≡ true → NoneApplies rs) → done_of (cond t (outcome.Refused r.number) (first_of rs)) ≡ true
+    go : (t : Bool) → r.applies ≡ t → (done_of (first_of rs) ≡ true → NoneApplies rs) → done_of (cond t (Err r.number) (first_of rs)) ≡ true
         → (r.applies ≡ false) × NoneApplies rs
     go true p rest e = absurd (clash e refl)
     go false p rest e = (p, rest e)

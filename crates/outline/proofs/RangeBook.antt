@@ -1,4 +1,5 @@
 -- The day book stays in its range and in balance, from whatever book is in both: no sum meets its guard. Assumes nothing.
+use Rattle.std.specs.Prelude.{Option, None, Some, ℤ, ℕ}
 use Prim.Native.Nat.{ℕ, suc, ◌+◌, ◌*◌, ◌<◌, ◌≤◌}
 use native.Mathlib.Omega.{arith}
 use mathlib.Core.Path.{◌≡◌, refl}
@@ -9,8 +10,6 @@ use borrow.Author.Tests.{leb-true, ltb-true, lt-ltb}
 use Rattle.whole.specs.Ints.{ints, linear, int_elim, ints3, ints6, abs_add}
 use Rattle.types.specs.declared.settings.Calibration.{Calibration}
 use Rattle.types.specs.declared.settings.Settings.{Settings}
-use Rattle.types.specs.declared.weight.Raw.{Raw}
-use Rattle.types.specs.declared.weight.Raw.TheVariants.{Bad, Tenths}
 use Rattle.types.specs.declared.weight.Weights.{Weights}
 use Rattle.types.specs.declared.daybook.Book.{Book}
 use Rattle.types.specs.declared.requests.Request.{Request}
@@ -30,9 +29,9 @@ use Rattle.outline.proofs.Parts.{cond_same, cond_in, clash, nought_plus}
 use Rattle.outline.proofs.DaySums.{plain, near, one_fall}
 
 -- ---- raw
-abbrev pub RawRange : Raw → Type 0
-RawRange Bad = Unit {0}
-RawRange (Tenths raw) = nat_abs raw ≤ raw_limit
+abbrev pub RawRange : Option ℤ → Type 0
+RawRange None = Unit {0}
+RawRange (Some raw) = nat_abs raw ≤ raw_limit
 
 pub raw_in_lem : (cal : Calibration) (count : ℤ) → RawRange (raw_of cal count)
 unfolding raw_of
@@ -97,9 +96,9 @@ module _ (r u n l x : ℤ) (t : ℕ)
         go = ints6 _ (λ o o' r r' u u' n n' l l' x x' h. simp ints (omega (linear, simp ints at h)))
 
 -- ---- step 2
-book_in : (b : Book) (raw : Raw) (contact : Bool) → RawRange raw → BookRange b → BookRange (book_of b raw contact)
+book_in : (b : Book) (raw : Option ℤ) (contact : Bool) → RawRange raw → BookRange b → BookRange (book_of b raw contact)
 unfolding book_of later_good
-book_in b Bad contact r h = record {
+book_in b None contact r h = record {
   opening = h.opening;
   last = h.last;
   ticks = count_in_lem b h.ticks;
@@ -108,7 +107,7 @@ book_in b Bad contact r h = record {
   none = λ k. h.none (omega (arith, count_up b));
   blank = h.blank;
 }
-book_in b (Tenths raw) contact r h = cond_in BookRange b.begun (λ e. later) (λ e. first e)
+book_in b (Some raw) contact r h = cond_in BookRange b.begun (λ e. later) (λ e. first e)
   where
     later : BookRange (later_good b raw contact)
     later = record {
@@ -132,10 +131,10 @@ book_in b (Tenths raw) contact r h = cond_in BookRange b.begun (λ e. later) (λ
       blank = λ e. absurd (clash refl e);
     }
 
-book_balanced : (b : Book) (raw : Raw) (contact : Bool) → RawRange raw → BookRange b → Balanced b → Balanced (book_of b raw contact)
+book_balanced : (b : Book) (raw : Option ℤ) (contact : Bool) → RawRange raw → BookRange b → Balanced b → Balanced (book_of b raw contact)
 unfolding book_of later_good
-book_balanced b Bad contact r h e = e
-book_balanced b (Tenths raw) contact r h e = cond_in Balanced b.begun (λ k. later) (λ k. first (h.blank k))
+book_balanced b None contact r h e = e
+book_balanced b (Some raw) contact r h e = cond_in Balanced b.begun (λ k. later) (λ k. first (h.blank k))
   where
     later : Balanced (later_good b raw contact)
     later = balance-more b.refilled b.used b.unbooked b.last raw b.ticks h.sums h.late h.none h.last r b.opening e (in_day b) (of_refill b contact) refl

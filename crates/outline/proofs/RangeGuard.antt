@@ -1,5 +1,6 @@
 -- The guard on gross and net is never met: raw is within its limit, the zero within the zero range, the tare within the capacity, and
 -- accepted settings bound the capacity, the zero range and the division. Assumes nothing.
+use Rattle.std.specs.Prelude.{Option, None, Some, ℤ, ℕ}
 use Prim.Native.Nat.{ℕ, ◌≤◌}
 use native.Mathlib.Nat as N
 use native.Mathlib.Omega.{arith}
@@ -16,8 +17,6 @@ use Rattle.whole.specs.Limit.{limit_to, limit_plain}
 use Rattle.types.specs.declared.settings.Given.{Given}
 use Rattle.types.specs.declared.settings.Range.{Range}
 use Rattle.types.specs.declared.settings.Settings.{Settings}
-use Rattle.types.specs.declared.weight.Raw.{Raw}
-use Rattle.types.specs.declared.weight.Raw.TheVariants.{Bad, Tenths}
 use Rattle.types.specs.declared.weight.Stability.{Stability}
 use Rattle.types.specs.declared.weight.Weighing.{Weighing}
 use Rattle.types.specs.declared.machine.State.{State}
@@ -93,10 +92,10 @@ module _ (s : Settings) (b : Bounded s.range) (w : Weighing) (h : WeighingRange 
       let divisions : nat_abs (divisions_of (raw -ℤ w.zero)) ≤ 4048000 = omega (arith, abs_nearest (raw -ℤ w.zero) 10, nearest_le (nat_abs (raw -ℤ w.zero)) 10, fine) in
       N.le_trans (N.le_of_eq (abs_mul (divisions_of (raw -ℤ w.zero)) s.range.division)) (N.mul-le-mul divisions b.division)
 
-  weigh_unstopped : (q : Stability) (raw : Raw) (contact : Bool) → RawRange raw → Unstopped s.range w (weigh_of s q w raw contact)
+  weigh_unstopped : (q : Stability) (raw : Option ℤ) (contact : Bool) → RawRange raw → Unstopped s.range w (weigh_of s q w raw contact)
   unfolding weigh_of
-  weigh_unstopped q Bad contact k = record { gross = sym (zero-*ℤ (pos s.range.division)); net = λ e. absurd (clash e refl) }
-  weigh_unstopped q (Tenths raw) contact k =
+  weigh_unstopped q None contact k = record { gross = sym (zero-*ℤ (pos s.range.division)); net = λ e. absurd (clash e refl) }
+  weigh_unstopped q (Some raw) contact k =
       let g = gross_of s.range (divisions_of (raw -ℤ w.zero)) in
       let plain : limit_to display_limit g ≡ g = limit_plain display_limit g (omega (arith, gross_small raw k)) in
       record {

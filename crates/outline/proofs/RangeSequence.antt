@@ -1,5 +1,6 @@
 -- The sequence stays in its range: no stage outlasts its time, neither clock stands above its limit, no error stands outside stage 00 and
 -- no judgement in a batch, and mode 2 has no discharge and no error of one. Assumes nothing.
+use Rattle.std.specs.Prelude.{None, Some, ℤ, ℕ}
 use Prim.Native.Nat.{ℕ, suc, ◌<◌, ◌≤◌, max}
 use native.Mathlib.Omega.{arith}
 use mathlib.Core.Path.{◌≡◌, refl, sym, ◌∙◌}
@@ -22,7 +23,6 @@ use Rattle.types.specs.declared.stages.SequenceError.{SequenceError}
 use Rattle.types.specs.declared.stages.SequenceError.TheVariants as error
 use Rattle.types.specs.declared.stages.Sequence.{Sequence}
 use Rattle.types.specs.declared.stages.Facts.{Facts}
-use Rattle.types.specs.declared.stages.Timing.TheVariants as timing
 use Rattle.types.specs.declared.stages.Move.{Move}
 use Rattle.types.specs.declared.stages.Move.TheVariants.{To, Fail, Finish, Emptied}
 use Rattle.types.specs.declared.stages.Advanced.{Advanced}
@@ -189,7 +189,7 @@ module _ (b : Batching) (from : Stage) where
   unfolding wait_of
   timed_in n t stay move k m = go (leb n (suc t)) refl
     where
-      go : (ends : Bool) → leb n (suc t) ≡ ends → MoveIn b from (timed (cond ends timing.Over (timing.Still (suc t))) stay move)
+      go : (ends : Bool) → leb n (suc t) ≡ ends → MoveIn b from (timed (cond ends None (Some (suc t))) stay move)
       go true e = m
       go false e = k (omega (arith, leb-false n (suc t) e))
 

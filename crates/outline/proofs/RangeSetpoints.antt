@@ -1,4 +1,5 @@
 -- The setpoints in use keep the rules, and so do those waiting: an accepted SS alone writes them. Assumes nothing.
+use Rattle.std.specs.Prelude.{Option, None, Some}
 use mathlib.Core.Path.{◌≡◌, refl}
 use mathlib.Core.Bool.{true, not}
 use borrow.Author.Tests.{not-false}
@@ -9,9 +10,6 @@ use Rattle.types.specs.declared.weight.Weights.{Weights}
 use Rattle.types.specs.declared.requests.Request.{Request}
 use Rattle.types.specs.declared.requests.Request.TheVariants as request
 use Rattle.types.specs.declared.stages.Setpoints.{Setpoints}
-use Rattle.types.specs.declared.stages.Write.{Write}
-use Rattle.types.specs.declared.stages.Write.TheVariants as write
-use Rattle.types.specs.declared.stages.Waiting.{Waiting}
 use Rattle.types.specs.declared.machine.State.{State}
 use Rattle.types.specs.declared.machine.Input.{Input}
 use Rattle.outline.specs.Setpoints.{open_setpoints, setpoints_fit, written_else}
@@ -30,12 +28,12 @@ module _ (m : Mode) where
   abbrev Fits : Setpoints → Type 0
   Fits p = setpoints_fit m p ≡ true
 
-  abbrev Waits : Waiting → Type 0
-  Waits w = write_fits m w.write ≡ true
+  abbrev Waits : Option Setpoints → Type 0
+  Waits w = write_fits m w ≡ true
 
-  written_fits : (w : Write) (p : Setpoints) → write_fits m w ≡ true → Fits p → Fits (written_else w p)
-  written_fits write.Nothing p k h = h
-  written_fits (write.Points n) p k h = k
+  written_fits : (w : Option Setpoints) (p : Setpoints) → write_fits m w ≡ true → Fits p → Fits (written_else w p)
+  written_fits None p k h = h
+  written_fits (Some n) p k h = k
 
 -- both sets, of what a step leaves
 pub record Fitting (m : Mode) (st : State) : Type 0 where
@@ -53,7 +51,7 @@ module _ (s : Settings) (st : State) (x : Weights) (h : Fitting s.batching.mode 
   granted_fits request.Stop e = record {
     used =
         cond_in (Fits s.batching.mode) (not (idle_now st))
-        (λ k. written_fits s.batching.mode st.waiting.write st.setpoints h.waits h.used) (λ k. h.used);
+        (λ k. written_fits s.batching.mode st.waiting st.setpoints h.waits h.used) (λ k. h.used);
     waits = cond_in (Waits s.batching.mode) (not (idle_now st)) (λ k. refl) (λ k. h.waits);
   }
   granted_fits (request.Set p) e =
@@ -92,7 +90,7 @@ tick_fits s st i h =
           rw (ended_setpoints s a x)
           (cond_in (Fits m) a.held (λ e. k.used)
           (λ e. cond_in (Fits m) (returned s a x)
-          (λ b. written_fits m a.state.waiting.write a.state.setpoints k.waits k.used) (λ b. k.used)));
+          (λ b. written_fits m a.state.waiting a.state.setpoints k.waits k.used) (λ b. k.used)));
       waits =
           rw (ended_waiting s a x)
           (cond_in (Waits m) a.held (λ e. k.waits) (λ e. cond_in (Waits m) (returned s a x) (λ b. refl) (λ b. k.waits)));

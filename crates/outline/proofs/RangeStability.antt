@@ -1,4 +1,5 @@
 -- Stability stays in its range: the run stops at k. Assumes nothing.
+use Rattle.std.specs.Prelude.{Option, None, Some, ℤ, ℕ}
 use Prim.Native.Nat.{ℕ, ◌*◌, ◌≤◌}
 use native.Mathlib.Omega.{arith}
 use mathlib.Core.Path.{◌≡◌, refl}
@@ -6,8 +7,6 @@ use mathlib.Core.Bool.{◌&&◌}
 use lib.IntN.{ℤ, ◌-ℤ◌}
 use Rattle.types.specs.declared.settings.Steadiness.{Steadiness}
 use Rattle.types.specs.declared.settings.Settings.{Settings}
-use Rattle.types.specs.declared.weight.Raw.{Raw}
-use Rattle.types.specs.declared.weight.Raw.TheVariants.{Bad, Tenths}
 use Rattle.types.specs.declared.weight.Stability.{Stability}
 use Rattle.types.specs.declared.weight.Weights.{Weights}
 use Rattle.types.specs.declared.requests.Request.{Request}
@@ -23,10 +22,10 @@ use Rattle.outline.specs.Ranges.{StabilityRange}
 use Rattle.outline.proofs.Parts.{cond_same, cond_in, clash}
 
 -- step 3; the run before does not matter
-steadied_in : (rule : Steadiness) (q : Stability) (last : ℤ) (raw : Raw) → StabilityRange rule (steadied_of rule q last raw)
+steadied_in : (rule : Steadiness) (q : Stability) (last : ℤ) (raw : Option ℤ) → StabilityRange rule (steadied_of rule q last raw)
 unfolding steadied_of
-steadied_in rule q last Bad = record { run = omega arith; broken = λ e. refl }
-steadied_in rule q last (Tenths raw) = record {
+steadied_in rule q last None = record { run = omega arith; broken = λ e. refl }
+steadied_in rule q last (Some raw) = record {
   run = cond_in (λ (n : ℕ). n ≤ rule.time) (q.good && within (10 * rule.width) (raw -ℤ last)) (λ e. omega arith) (λ e. omega arith);
   broken = λ e. absurd (clash refl e);
 }

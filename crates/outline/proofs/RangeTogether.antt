@@ -1,5 +1,6 @@
 -- How the parts of a state go together, tick by tick: a good tick begins the book, a bad one ends in stage 00, the tracking counter counts in
 -- stage 00 alone, and a batch goes through the flow stages that its setpoints have. Assumes nothing.
+use Rattle.std.specs.Prelude.{Option, None, Some, ℤ, ℕ}
 use Prim.Native.Nat.{ℕ, suc}
 use mathlib.Core.Path.{◌≡◌, refl, sym, ap, ◌∙◌}
 use mathlib.Core.Bool.{Bool, true, false, cond, not, ◌&&◌}
@@ -10,8 +11,6 @@ use Rattle.types.specs.declared.settings.Mode.{Mode}
 use Rattle.types.specs.declared.settings.Steadiness.{Steadiness}
 use Rattle.types.specs.declared.settings.Batching.{Batching}
 use Rattle.types.specs.declared.settings.Settings.{Settings}
-use Rattle.types.specs.declared.weight.Raw.{Raw}
-use Rattle.types.specs.declared.weight.Raw.TheVariants.{Bad, Tenths}
 use Rattle.types.specs.declared.weight.Stability.{Stability}
 use Rattle.types.specs.declared.weight.Weighing.{Weighing}
 use Rattle.types.specs.declared.weight.Weights.{Weights}
@@ -19,12 +18,10 @@ use Rattle.types.specs.declared.daybook.Book.{Book}
 use Rattle.types.specs.declared.requests.Request.{Request}
 use Rattle.types.specs.declared.requests.Request.TheVariants as request
 use Rattle.types.specs.declared.stages.Setpoints.{Setpoints}
-use Rattle.types.specs.declared.stages.Waiting.{Waiting}
 use Rattle.types.specs.declared.stages.Stage.{Stage}
 use Rattle.types.specs.declared.stages.Stage.TheVariants.{Idle, StartDelay, LargeDisable, LargeFlow, MediumDisable, MediumFlow, SmallDisable, SmallFlow, JudgeDelay, JudgeWait, DischargeStart, Discharge, DischargeEnd}
 use Rattle.types.specs.declared.stages.Sequence.{Sequence}
 use Rattle.types.specs.declared.stages.Facts.{Facts}
-use Rattle.types.specs.declared.stages.Timing.TheVariants as timing
 use Rattle.types.specs.declared.stages.Move.{Move}
 use Rattle.types.specs.declared.stages.Move.TheVariants.{To, Fail, Finish, Emptied}
 use Rattle.types.specs.declared.stages.Advanced.{Advanced}
@@ -48,15 +45,15 @@ use Rattle.outline.proofs.RangeStability.{settled_stability, ended_stability}
 use Rattle.outline.proofs.RangeWeighing.{Counts, counts, ended_weighing}
 
 -- ---- steps 2 and 3: the tick is good to the book, to stability and to the weights, or to none of them
-begun_in : (b : Book) (rule : Steadiness) (q : Stability) (last : ℤ) (raw : Raw) (contact : Bool) → (steadied_of rule q last raw).good ≡ true → (book_of b raw contact).begun ≡ true
+begun_in : (b : Book) (rule : Steadiness) (q : Stability) (last : ℤ) (raw : Option ℤ) (contact : Bool) → (steadied_of rule q last raw).good ≡ true → (book_of b raw contact).begun ≡ true
 unfolding steadied_of book_of later_good
-begun_in b rule q last Bad contact e = absurd (clash e refl)
-begun_in b rule q last (Tenths raw) contact e = cond_in (λ (c : Book). c.begun ≡ true) b.begun (λ k. refl) (λ k. refl)
+begun_in b rule q last None contact e = absurd (clash e refl)
+begun_in b rule q last (Some raw) contact e = cond_in (λ (c : Book). c.begun ≡ true) b.begun (λ k. refl) (λ k. refl)
 
-weigh_good : (s : Settings) (q v : Stability) (last : ℤ) (w : Weighing) (raw : Raw) (contact : Bool) → (weigh_of s v w raw contact).good ≡ (steadied_of s.steadiness q last raw).good
+weigh_good : (s : Settings) (q v : Stability) (last : ℤ) (w : Weighing) (raw : Option ℤ) (contact : Bool) → (weigh_of s v w raw contact).good ≡ (steadied_of s.steadiness q last raw).good
 unfolding weigh_of steadied_of
-weigh_good s q v last w Bad contact = refl
-weigh_good s q v last w (Tenths raw) contact = refl
+weigh_good s q v last w None contact = refl
+weigh_good s q v last w (Some raw) contact = refl
 
 -- ---- step 4
 idle_fits : (m : Mode) (p : Setpoints) (g : Stage) → idle_of g ≡ true → flow_fits m p g ≡ true
@@ -153,7 +150,7 @@ module _ (s : Settings) (st : State) (x : Weights) where
       granted_waits request.Tare e = n e
       granted_waits request.TareClear e = n e
       granted_waits request.Start e = absurd (clash e refl)
-      granted_waits request.Stop e = cond_in (λ (w : Waiting). w ≡ none_waiting) (not (idle_now st)) (λ k. refl) (λ k. n (not-false _ k))
+      granted_waits request.Stop e = cond_in (λ (w : Option Setpoints). w ≡ none_waiting) (not (idle_now st)) (λ k. refl) (λ k. n (not-false _ k))
       granted_waits (request.Set p) e = rw e (n e)
       granted_waits request.TotalClear e = n e
       granted_waits request.Undo e = n e
@@ -200,7 +197,7 @@ module _ (P : Stage → Type 0) where
   unfolding wait_of
   timed_leads n t stay move k m = go (leb n (suc t))
     where
-      go : (ends : Bool) → Leads P (timed (cond ends timing.Over (timing.Still (suc t))) stay move)
+      go : (ends : Bool) → Leads P (timed (cond ends None (Some (suc t))) stay move)
       go true = m
       go false = k
 

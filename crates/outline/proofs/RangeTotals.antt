@@ -1,4 +1,5 @@
 -- The totals stay in their range, and what can be taken back is in them. Assumes nothing.
+use Rattle.std.specs.Prelude.{Option, None, Some, ℤ, ℕ}
 use Prim.Native.Nat.{◌+◌, suc}
 use native.Mathlib.Omega.{arith}
 use mathlib.Core.Path.{◌≡◌}
@@ -13,8 +14,6 @@ use Rattle.types.specs.declared.weight.Weights.{Weights}
 use Rattle.types.specs.declared.requests.Request.{Request}
 use Rattle.types.specs.declared.requests.Request.TheVariants as request
 use Rattle.types.specs.declared.stages.Advanced.{Advanced}
-use Rattle.types.specs.declared.stages.Batch.{Batch}
-use Rattle.types.specs.declared.stages.Batch.TheVariants as batch
 use Rattle.types.specs.declared.stages.Totals.{Totals}
 use Rattle.types.specs.declared.machine.State.{State}
 use Rattle.types.specs.declared.machine.Input.{Input}
@@ -32,9 +31,9 @@ pub clear_in : TotalsRange clear_totals
 clear_in = record { total = omega arith; count = omega arith; back = tt }
 
 -- ---- step 4: clear and undo
-less_in : (t : Totals) (b : Batch) → TotalsRange t → TotalsRange (less_batch t b)
-less_in t batch.Nothing h = h
-less_in t (batch.Weight v) h = record { total = omega (arith, h.total); count = omega (arith, h.count); back = tt }
+less_in : (t : Totals) (b : Option ℕ) → TotalsRange t → TotalsRange (less_batch t b)
+less_in t None h = h
+less_in t (Some v) h = record { total = omega (arith, h.total); count = omega (arith, h.count); back = tt }
 
 granted_totals : (st : State) (x : Weights) (r : Request) → TotalsRange st.totals → TotalsRange (granted_of st x r).state.totals
 unfolding granted_of taken_back

@@ -1,5 +1,6 @@
 -- Zero, tracking and tare stay in their ranges, and so do the weights that are taken from them: the zero is a raw within the zero
 -- range, the tare a gross of 0..C divisions. Assumes nothing.
+use Rattle.std.specs.Prelude.{Option, None, Some, ℤ, ℕ}
 use Prim.Native.Nat.{ℕ, suc, ◌+◌, ◌*◌, ◌<◌, ◌≤◌, max}
 use native.Mathlib.Nat as N
 use native.Mathlib.Omega.{arith}
@@ -15,8 +16,6 @@ use Rattle.whole.specs.Ints.{ints, linear, int_elim, ints3, abs_mul, abs_sub}
 use Rattle.types.specs.declared.settings.Range.{Range}
 use Rattle.types.specs.declared.settings.Tracking.{Tracking}
 use Rattle.types.specs.declared.settings.Settings.{Settings}
-use Rattle.types.specs.declared.weight.Raw.{Raw}
-use Rattle.types.specs.declared.weight.Raw.TheVariants.{Bad, Tenths}
 use Rattle.types.specs.declared.weight.Stability.{Stability}
 use Rattle.types.specs.declared.weight.Weighing.{Weighing}
 use Rattle.types.specs.declared.weight.Weights.{Weights}
@@ -52,16 +51,16 @@ record Weighed (r : Range) (w : Weighing) (x : Weights) : Type 0 where
   net : nat_abs x.net ≤ nat_abs x.gross + nat_abs w.tare
   fits : fit_of x ≡ true → nat_abs x.divisions ≤ r.capacity + overload_margin
 
-weigh_in : (s : Settings) (q : Stability) (w : Weighing) (raw : Raw) (contact : Bool) → Weighed s.range w (weigh_of s q w raw contact)
+weigh_in : (s : Settings) (q : Stability) (w : Weighing) (raw : Option ℤ) (contact : Bool) → Weighed s.range w (weigh_of s q w raw contact)
 unfolding weigh_of
-weigh_in s q w Bad contact = record {
+weigh_in s q w None contact = record {
   least = λ e. refl;
   most = omega arith;
   fine = λ e. absurd (clash e refl);
   net = omega arith;
   fits = λ e. absurd (clash e refl);
 }
-weigh_in s q w (Tenths raw) contact = record {
+weigh_in s q w (Some raw) contact = record {
   least = λ e. limit_least display_limit (gross_of s.range (divisions_of (raw -ℤ w.zero))) (least (divisions_of (raw -ℤ w.zero)) s.range.division e);
   most = N.le_trans (limit_le display_limit (gross_of s.range (divisions_of (raw -ℤ w.zero)))) (N.le_of_eq (abs_mul (divisions_of (raw -ℤ w.zero)) s.range.division));
   fine = λ e. refl;

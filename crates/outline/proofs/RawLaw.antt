@@ -1,4 +1,5 @@
 -- |raw| is at most 4,000,000: |count - Z| is, and 10·W/(S - Z) is at most 1. Assumes nothing.
+use Rattle.std.specs.Prelude.{None, Some, ℤ, ℕ}
 use Prim.Native.Nat.{ℕ, ◌*◌, ◌≤◌}
 use native.Mathlib.Nat as N
 use mathlib.Core.Path.{◌≡◌, ap, ◌∙◌}
@@ -8,7 +9,6 @@ use borrow.Author.Tests.{leb-true, le-leb}
 use Rattle.whole.specs.Ints.{ints, linear, ints2, abs_mul}
 use Rattle.whole.specs.Nearest.{nearest_n, nearest_scaled, abs_nearest}
 use Rattle.types.specs.declared.settings.Calibration.{Calibration}
-use Rattle.types.specs.declared.weight.Raw.TheVariants.{Bad, Tenths}
 use Rattle.outline.specs.Limits.{count_limit, raw_limit}
 use Rattle.outline.specs.Weight.{good_count, tenths_of, raw_of}
 use Rattle.outline.specs.Owed.{RawLaw}
@@ -23,11 +23,11 @@ module _ (cal : Calibration) (c : Calibrated cal) (count : ℤ) where
       N.le_trans (N.le_of_eq (abs_nearest ((count -ℤ cal.zero) *ℤ pos (10 * cal.weight)) cal.counts ∙ ap (λ (m : ℕ). nearest_n m cal.counts) (abs_mul (count -ℤ cal.zero) (10 * cal.weight))))
       (N.le_trans (nearest_scaled (nat_abs (count -ℤ cal.zero)) (10 * cal.weight) cal.counts c.span) (near count cal.zero (leb-true (nat_abs count) count_limit h) c.zero))
 
-  good_raw : good_count count ≡ true → raw_of cal count ≡ Tenths (tenths_of cal count)
+  good_raw : good_count count ≡ true → raw_of cal count ≡ Some (tenths_of cal count)
   unfolding raw_of
   good_raw h = simp (h, le-leb (nat_abs (tenths_of cal count)) raw_limit (tenths_small h))
 
-  bad_raw : good_count count ≡ false → raw_of cal count ≡ Bad
+  bad_raw : good_count count ≡ false → raw_of cal count ≡ None
   unfolding raw_of
   bad_raw h = simp h
 

@@ -1,21 +1,23 @@
 -- A read asks nothing of its tick, so that what step 4 leaves of display, totals and setpoints is what stood before it: the reply due can
 -- be made from the state before the tick and from what the tick answers. A law that the proof of the tick with a line cites. Assumes
 -- nothing.
-use Rattle.std.specs.Prelude.{◌≡◌}
+use Rattle.std.specs.Prelude.{◌≡◌, Result, Ok, Err}
 use Rattle.std.proofs.Math.Path.{refl, ap}
+use Rattle.types.specs.declared.requests.Refusal.{Refusal}
 use Rattle.types.specs.declared.settings.Settings.{Settings}
 use Rattle.types.specs.declared.stages.Setpoints.{Setpoints}
 use Rattle.types.specs.declared.stages.Totals.{Totals}
 use Rattle.types.specs.declared.weight.Panel.{Panel}
 use Rattle.types.specs.declared.requests.Request.TheVariants as request
-use Rattle.types.specs.declared.requests.Outcome.{Outcome}
 use Rattle.types.specs.declared.machine.State.{State}
 use Rattle.types.specs.declared.machine.Input.{Input}
 use Rattle.types.specs.declared.machine.Reading.{Reading}
 use Rattle.types.specs.declared.lines.Word.{Word}
 use Rattle.types.specs.declared.lines.Word.TheVariants as word
-use Rattle.types.specs.declared.lines.Command.{Command}
-use Rattle.types.specs.declared.lines.Command.TheVariants as command
+use Rattle.types.specs.declared.lines.Order.{Order}
+use Rattle.types.specs.declared.lines.LineFault.{LineFault}
+use Rattle.types.specs.declared.lines.Order.TheVariants as order
+use Rattle.types.specs.declared.lines.LineFault.TheVariants as fault
 use Rattle.types.specs.declared.lines.Reply.TheVariants as reply
 use Rattle.outline.specs.Weight.{raw_of}
 use Rattle.outline.specs.Setpoints.{latest_of}
@@ -41,7 +43,7 @@ module _ (s : Settings) (st : State) (i : Input) where
   unfolding entered_of
   latest_stays e = ap (λ (t : State). latest_of t.setpoints t.waiting) (settled_unasked e)
 
-  word_before : (w : Word) → i.request ≡ word_request w → (x : Reading) (o : Outcome)
+  word_before : (w : Word) → i.request ≡ word_request w → (x : Reading) (o : Result (Unit {0}) Refusal)
       → word_reply w (settled_of s st i).state x o ≡ word_reply w st x o
   word_before word.ReadWeight e x o = ap (λ (p : Panel). reply.Weight (shown_of p.display x)) (panel_stays e)
   word_before word.ReadTotal e x o = ap (λ (t : Totals). reply.Total t.total t.count) (totals_stay e)
@@ -58,13 +60,13 @@ module _ (s : Settings) (st : State) (i : Input) where
   word_before word.DayClose e x o = refl
   word_before word.Discharge e x o = refl
 
-  pub due_before : (c : Command) → i.request ≡ request_of c → (x : Reading) (o : Outcome)
+  pub due_before : (c : Result Order LineFault) → i.request ≡ request_of c → (x : Reading) (o : Result (Unit {0}) Refusal)
       → reply_due c (settled_of s st i).state x o ≡ reply_due c st x o
   unfolding request_of reply_due
-  due_before (command.Do w) e x o = word_before w e x o
-  due_before (command.Set p) e x o = refl
-  due_before command.NoLine e x o = refl
-  due_before command.LongLine e x o = refl
-  due_before command.OtherAddress e x o = refl
-  due_before command.Malformed e x o = refl
-  due_before command.Unknown e x o = refl
+  due_before (Ok (order.Do w)) e x o = word_before w e x o
+  due_before (Ok (order.Set p)) e x o = refl
+  due_before (Err fault.NoLine) e x o = refl
+  due_before (Err fault.LongLine) e x o = refl
+  due_before (Err fault.OtherAddress) e x o = refl
+  due_before (Err fault.Malformed) e x o = refl
+  due_before (Err fault.Unknown) e x o = refl

@@ -1,13 +1,11 @@
 -- A tick with a refused request is the tick without it, but for the outcome that it answers. Assumes nothing.
+use Rattle.std.specs.Prelude.{Option, None, Result, Ok, Err, ℤ, ℕ}
 use Prim.Native.Nat.{ℕ}
 use native.Mathlib.Omega.{arith}
 use mathlib.Core.Path.{◌≡◌, refl, ap}
 use mathlib.Core.Bool.{Bool, false}
+use Rattle.types.specs.declared.requests.Refusal.{Refusal}
 use Rattle.types.specs.declared.settings.Settings.{Settings}
-use Rattle.types.specs.declared.weight.Raw.{Raw}
-use Rattle.types.specs.declared.daybook.Closed.TheVariants as closed
-use Rattle.types.specs.declared.requests.Outcome.{Outcome}
-use Rattle.types.specs.declared.requests.Outcome.TheVariants as outcome
 use Rattle.types.specs.declared.machine.State.{State}
 use Rattle.types.specs.declared.machine.Input.{Input}
 use Rattle.types.specs.declared.machine.Settled.{Settled}
@@ -19,10 +17,10 @@ use Rattle.outline.specs.Run.{without_request}
 use Rattle.outline.specs.StaysTrue.{Refusals}
 
 -- the same, with another outcome and no day closed
-abbrev told_settled : Outcome → Settled → Settled
-told_settled o a = record { outcome = o; state = a.state; held = a.held; keyed = a.keyed; closed = closed.Nothing }
+abbrev told_settled : Result (Unit {0}) Refusal → Settled → Settled
+told_settled o a = record { outcome = o; state = a.state; held = a.held; keyed = a.keyed; closed = None }
 
-abbrev told : Outcome → Ticked → Ticked
+abbrev told : Result (Unit {0}) Refusal → Ticked → Ticked
 told o t = record {
   state = t.state;
   answer = record {
@@ -35,17 +33,17 @@ told o t = record {
     near = t.answer.near;
     full = t.answer.full;
     analog = t.answer.analog;
-    closed = closed.Nothing;
+    closed = None;
   };
 }
 
 -- refused, step 4 does what it does where nothing is asked
-unmoved : (o : Outcome) (st : State) (granted : Settled) → done_of o ≡ false → unless_refused o st granted ≡ told_settled o (unless_refused outcome.Done st (plainly st))
-unmoved outcome.Done st granted e = let z : ◌≡◌ {A = ℕ} 0 1 = cc in absurd (omega arith)
-unmoved (outcome.Refused n) st granted e = refl
+unmoved : (o : Result (Unit {0}) Refusal) (st : State) (granted : Settled) → done_of o ≡ false → unless_refused o st granted ≡ told_settled o (unless_refused (Ok tt) st (plainly st))
+unmoved (Ok tt) st granted e = let z : ◌≡◌ {A = ℕ} 0 1 = cc in absurd (omega arith)
+unmoved (Err n) st granted e = refl
 
 -- the rest of a tick sees of step 4 its outcome only to answer it
-abbrev rest_of : Settings → Raw → Bool → Settled → Ticked
+abbrev rest_of : Settings → Option ℤ → Bool → Settled → Ticked
 rest_of s raw contact a =
     let x = weights_of s a.state raw contact in
     record { state = ended_of s a x; answer = outputs_of s a x (ended_of s a x) }

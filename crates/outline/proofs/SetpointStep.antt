@@ -1,14 +1,13 @@
 -- The setpoints in use and those waiting, tick by tick: an accepted SS writes them, and nothing else does; what RS reads stays when what
 -- waited comes into use. Assumes nothing.
+use Rattle.std.specs.Prelude.{Option, Ok}
 use mathlib.Core.Path.{◌≡◌, refl, sym, ap, ◌∙◌}
 use mathlib.Core.Bool.{Bool, true, false, cond, not, ◌&&◌}
 use Rattle.types.specs.declared.settings.Settings.{Settings}
 use Rattle.types.specs.declared.weight.Weights.{Weights}
 use Rattle.types.specs.declared.requests.Request.{Request}
 use Rattle.types.specs.declared.requests.Request.TheVariants as request
-use Rattle.types.specs.declared.requests.Outcome.TheVariants as outcome
 use Rattle.types.specs.declared.stages.Setpoints.{Setpoints}
-use Rattle.types.specs.declared.stages.Waiting.{Waiting}
 use Rattle.types.specs.declared.machine.State.{State}
 use Rattle.types.specs.declared.machine.Input.{Input}
 use Rattle.types.specs.declared.machine.Settled.{Settled}
@@ -25,7 +24,7 @@ abbrev pub read_of : State → Setpoints
 read_of st = latest_of st.setpoints st.waiting
 
 -- it stays where what waits comes into use
-in_latest : (t : Bool) (p : Setpoints) (w : Waiting) → latest_of (cond t (latest_of p w) p) (cond t none_waiting w) ≡ latest_of p w
+in_latest : (t : Bool) (p : Setpoints) (w : Option Setpoints) → latest_of (cond t (latest_of p w) p) (cond t none_waiting w) ≡ latest_of p w
 in_latest true p w = refl
 in_latest false p w = refl
 
@@ -58,12 +57,12 @@ unfolding decided_of
 by_kept s st x r e = unless_written (done_of (ruling_of s st x r)) st x r e
 
 -- a write in 00, where nothing waits, and in any other stage
-pub stored : (idle : Bool) (p q : Setpoints) (w : Waiting) → (idle ≡ true → w ≡ none_waiting) → latest_of (cond idle q p) (cond idle w (waiting_for q)) ≡ q
+pub stored : (idle : Bool) (p q : Setpoints) (w : Option Setpoints) → (idle ≡ true → w ≡ none_waiting) → latest_of (cond idle q p) (cond idle w (waiting_for q)) ≡ q
 stored true p q w h = ap (latest_of q) (h refl)
 stored false p q w h = refl
 
 by_set : (s : Settings) (st : State) (x : Weights) (r : Request) (p : Setpoints) → (idle_now st ≡ true → st.waiting ≡ none_waiting)
-    → r ≡ request.Set p → (decided_of s st x r).outcome ≡ outcome.Done → read_of (decided_of s st x r).state ≡ p
+    → r ≡ request.Set p → (decided_of s st x r).outcome ≡ Ok tt → read_of (decided_of s st x r).state ≡ p
 unfolding decided_of granted_of
 by_set s st x r p h e d = rw d (rw e (stored (idle_now st) st.setpoints p st.waiting h))
 
@@ -72,7 +71,7 @@ unfolding settled_of entered_of tick_of outputs_of
 settled_kept s st i e = by_kept s _ _ i.request e
 
 settled_set : (s : Settings) (st : State) (i : Input) (p : Setpoints) → (idle_now st ≡ true → st.waiting ≡ none_waiting)
-    → i.request ≡ request.Set p → (settled_of s st i).outcome ≡ outcome.Done → read_of (settled_of s st i).state ≡ p
+    → i.request ≡ request.Set p → (settled_of s st i).outcome ≡ Ok tt → read_of (settled_of s st i).state ≡ p
 unfolding settled_of entered_of
 settled_set s st i p h e d = by_set s _ _ i.request p h e d
 
@@ -93,7 +92,7 @@ unfolding ended_of stepped_of finished_of with_tracking
 ended_waiting s a x = simp cond_same
 
 -- what RS reads stays
-in_both : (held back : Bool) (p : Setpoints) (w : Waiting)
+in_both : (held back : Bool) (p : Setpoints) (w : Option Setpoints)
     → latest_of (cond held p (cond back (latest_of p w) p)) (cond held w (cond back none_waiting w)) ≡ latest_of p w
 in_both true back p w = refl
 in_both false back p w = in_latest back p w
@@ -108,6 +107,6 @@ unfolding next_of
 tick_kept s st i e = ended_latest s (settled_of s st i) (served_of s st i) ∙ settled_kept s st i e
 
 pub tick_set : (s : Settings) (st : State) (i : Input) (p : Setpoints) → (idle_now st ≡ true → st.waiting ≡ none_waiting)
-    → i.request ≡ request.Set p → (settled_of s st i).outcome ≡ outcome.Done → read_of (next_of s st i) ≡ p
+    → i.request ≡ request.Set p → (settled_of s st i).outcome ≡ Ok tt → read_of (next_of s st i) ≡ p
 unfolding next_of
 tick_set s st i p h e d = ended_latest s (settled_of s st i) (served_of s st i) ∙ settled_set s st i p h e d

@@ -1,32 +1,27 @@
 -- A tick put together from the parts of the state that the code assigns, step by step. These are laws over plain variables, which the
 -- proofs of functions that assign parts of a state cite: one law that the tick is what is left to do with those parts, and one law for each
 -- way that step 6 can go. Assumes nothing.
-use Rattle.std.specs.Prelude.{◌≡◌, refl, Bool, true, cond, not, ◌&&◌, ℤ, pos}
+use Rattle.std.specs.Prelude.{◌≡◌, refl, Bool, true, cond, not, ◌&&◌, ℤ, pos, Option, None, Some, Result, Ok, Err}
 use Rattle.std.proofs.Common.{sym, ◌∙◌}
 use Rattle.std.proofs.Math.Path.{ap}
 use Rattle.std.proofs.Math.Bool.{false}
+use Rattle.types.specs.declared.requests.Refusal.{Refusal}
 use Rattle.types.specs.declared.settings.Settings.{Settings}
-use Rattle.types.specs.declared.weight.Raw.{Raw}
 use Rattle.types.specs.declared.weight.Weights.{Weights}
 use Rattle.types.specs.declared.weight.Stability.{Stability}
 use Rattle.types.specs.declared.weight.Weighing.{Weighing}
 use Rattle.types.specs.declared.weight.Display.TheVariants as display
 use Rattle.types.specs.declared.daybook.Book.{Book}
-use Rattle.types.specs.declared.daybook.Closed.{Closed}
-use Rattle.types.specs.declared.daybook.Closed.TheVariants as closed
 use Rattle.types.specs.declared.stages.Advanced.{Advanced}
 use Rattle.types.specs.declared.stages.Sequence.{Sequence}
 use Rattle.types.specs.declared.stages.Totals.{Totals}
 use Rattle.types.specs.declared.stages.Setpoints.{Setpoints}
-use Rattle.types.specs.declared.stages.Waiting.{Waiting}
 use Rattle.types.specs.declared.stages.Facts.{Facts}
 use Rattle.types.specs.declared.stages.Move.{Move}
 use Rattle.types.specs.declared.stages.Move.TheVariants as move
 use Rattle.types.specs.declared.settings.Batching.{Batching}
 use Rattle.types.specs.declared.requests.Request.{Request}
 use Rattle.types.specs.declared.requests.Request.TheVariants as request
-use Rattle.types.specs.declared.requests.Outcome.{Outcome}
-use Rattle.types.specs.declared.requests.Outcome.TheVariants as outcome
 use Rattle.types.specs.declared.machine.State.{State}
 use Rattle.types.specs.declared.machine.Input.{Input}
 use Rattle.types.specs.declared.machine.Settled.{Settled}
@@ -55,7 +50,7 @@ and_no true = refl
 and_no false = refl
 
 -- ---- a tick that is asked nothing: steps 1 to 5, call by call
-module _ {s : Settings} {contact : Bool} {st : State} {count : ℤ} {raw : Raw} {q : Stability} {b : Book} {x : Weights}
+module _ {s : Settings} {contact : Bool} {st : State} {count : ℤ} {raw : Option ℤ} {q : Stability} {b : Book} {x : Weights}
     {idle : Bool} {w : Weighing} (p : Parts s contact st count raw q b x idle w) where
   -- with no request the next state is step 6 on those parts
   pub parts_next : stepped_of s (parts_of st b q w) x ≡ next_of s st (unasked_of count contact)
@@ -112,7 +107,7 @@ module _ (s : Settings) (st : State) (x : Weights) where
         simp (← en, ← ef, ← ev, ← ea, e, on, and_no)
 
     -- the stage returns to 00: what waited is in use
-    module _ (p : Setpoints) (w : Waiting) (runs : idle_of st.sequence.stage ≡ false) (back : idle_of a.sequence.stage ≡ true)
+    module _ (p : Setpoints) (w : Option Setpoints) (runs : idle_of st.sequence.stage ≡ false) (back : idle_of a.sequence.stage ≡ true)
         (ep : p ≡ latest_of st.setpoints st.waiting) (ew : w ≡ none_waiting) where
       pub step_back : a.finished ≡ false → with_waiting (with_setpoints (with_sequence st a.sequence) p) w ≡ stepped_of s st x
       unfolding stepped_of finished_of facts_of
@@ -166,7 +161,7 @@ unfolding outputs_of
 shown s a x r e = simp e
 
 -- the tick of the parts
-pub parts_tick : {s : Settings} {contact : Bool} {st : State} {count : ℤ} {raw : Raw} {q : Stability} {b : Book} {x : Weights}
+pub parts_tick : {s : Settings} {contact : Bool} {st : State} {count : ℤ} {raw : Option ℤ} {q : Stability} {b : Book} {x : Weights}
     {idle : Bool} {w : Weighing} → Parts s contact st count raw q b x idle w → (r : State) (o : Answer)
     → r ≡ stepped_of s (parts_of st b q w) x
     → o ≡ outputs_of s (plainly r) x r
@@ -186,10 +181,10 @@ next_panel s st i = end_panel s (settled_of s st i) (served_of s st i)
 
 -- ---- a tick with a request
 -- where the ways of step 4 meet
-pub left_by : {a : Settled} {st st' : State} {held held' keyed keyed' : Bool} {day day' : Closed}
-    → st' ≡ st → held' ≡ held → keyed' ≡ keyed → day' ≡ day → left_of outcome.Done st held keyed day ≡ a
-    → left_of outcome.Done st' held' keyed' day' ≡ a
-left_by es eh ek ed e = (λ i. left_of outcome.Done (es i) (eh i) (ek i) (ed i)) ∙ e
+pub left_by : {a : Settled} {st st' : State} {held held' keyed keyed' : Bool} {day day' : Option Book}
+    → st' ≡ st → held' ≡ held → keyed' ≡ keyed → day' ≡ day → left_of (Ok tt) st held keyed day ≡ a
+    → left_of (Ok tt) st' held' keyed' day' ≡ a
+left_by es eh ek ed e = (λ i. left_of (Ok tt) (es i) (eh i) (ek i) (ed i)) ∙ e
 
 -- ---- the two requests that ask for the stage
 module _ (st : State) where
@@ -198,7 +193,7 @@ module _ (st : State) where
   unfolding stop_sequence
   stopped_idle i = simp i
 
-  pub stopped_runs : idle_of st.sequence.stage ≡ false → (q : Sequence) (p : Setpoints) (w : Waiting)
+  pub stopped_runs : idle_of st.sequence.stage ≡ false → (q : Sequence) (p : Setpoints) (w : Option Setpoints)
       → q ≡ stop_sequence st.sequence → p ≡ latest_of st.setpoints st.waiting → w ≡ none_waiting
       → with_waiting (with_setpoints (with_sequence st q) p) w ≡ stopped_of st
   stopped_runs i q p w eq ep ew = simp (i, eq, ep, ew)
@@ -207,83 +202,83 @@ module _ (st : State) where
   pub stored_idle : (p : Setpoints) → idle_of st.sequence.stage ≡ true → with_setpoints st p ≡ stored_of st p
   stored_idle p i = simp i
 
-  pub stored_runs : (p : Setpoints) → idle_of st.sequence.stage ≡ false → (w : Waiting) → w ≡ waiting_for p
+  pub stored_runs : (p : Setpoints) → idle_of st.sequence.stage ≡ false → (w : Option Setpoints) → w ≡ waiting_for p
       → with_waiting st w ≡ stored_of st p
   stored_runs p i w ew = simp (i, ew)
 
 -- each way: the part that the request changes
 module _ (st : State) (x : Weights) (d : Request) where
-  pub left_nothing : d ≡ request.Nothing → left_of outcome.Done st false false closed.Nothing ≡ granted_of st x d
+  pub left_nothing : d ≡ request.Nothing → left_of (Ok tt) st false false None ≡ granted_of st x d
   unfolding granted_of
   left_nothing e = simp e
 
   pub left_zero : d ≡ request.Zero → (w : Weighing) → w ≡ zeroed_of st.weighing x.raw
-      → left_of outcome.Done (with_weighing st w) false true closed.Nothing ≡ granted_of st x d
+      → left_of (Ok tt) (with_weighing st w) false true None ≡ granted_of st x d
   unfolding granted_of
   left_zero e w ew = simp (e, ew)
 
   pub left_tare : d ≡ request.Tare → (w : Weighing) → w ≡ tared_of st.weighing x.gross
-      → left_of outcome.Done (with_weighing st w) false false closed.Nothing ≡ granted_of st x d
+      → left_of (Ok tt) (with_weighing st w) false false None ≡ granted_of st x d
   unfolding granted_of
   left_tare e w ew = simp (e, ew)
 
   pub left_tare_clear : d ≡ request.TareClear → (w : Weighing) → w ≡ tared_of st.weighing (pos 0)
-      → left_of outcome.Done (with_weighing st w) false false closed.Nothing ≡ granted_of st x d
+      → left_of (Ok tt) (with_weighing st w) false false None ≡ granted_of st x d
   unfolding granted_of
   left_tare_clear e w ew = simp (e, ew)
 
   pub left_start : d ≡ request.Start → (q : Sequence) → q ≡ start_sequence
-      → left_of outcome.Done (with_sequence st q) true false closed.Nothing ≡ granted_of st x d
+      → left_of (Ok tt) (with_sequence st q) true false None ≡ granted_of st x d
   unfolding granted_of
   left_start e q eq = simp (e, eq)
 
-  pub left_stop : d ≡ request.Stop → (r : State) → r ≡ stopped_of st → left_of outcome.Done r true false closed.Nothing ≡ granted_of st x d
+  pub left_stop : d ≡ request.Stop → (r : State) → r ≡ stopped_of st → left_of (Ok tt) r true false None ≡ granted_of st x d
   unfolding granted_of
   left_stop e r er = simp (e, er)
 
   pub left_set : (p : Setpoints) → d ≡ request.Set p → (r : State) → r ≡ stored_of st p
-      → left_of outcome.Done r false false closed.Nothing ≡ granted_of st x d
+      → left_of (Ok tt) r false false None ≡ granted_of st x d
   unfolding granted_of
   left_set p e r er = simp (e, er)
 
   pub left_total_clear : d ≡ request.TotalClear → (t : Totals) → t ≡ clear_totals
-      → left_of outcome.Done (with_totals st t) false false closed.Nothing ≡ granted_of st x d
+      → left_of (Ok tt) (with_totals st t) false false None ≡ granted_of st x d
   unfolding granted_of
   left_total_clear e t et = simp (e, et)
 
   pub left_undo : d ≡ request.Undo → (t : Totals) → t ≡ taken_back st.totals
-      → left_of outcome.Done (with_totals st t) false false closed.Nothing ≡ granted_of st x d
+      → left_of (Ok tt) (with_totals st t) false false None ≡ granted_of st x d
   unfolding granted_of
   left_undo e t et = simp (e, et)
 
-  pub left_gross : d ≡ request.ShowGross → left_of outcome.Done (with_display st display.Gross) false false closed.Nothing ≡ granted_of st x d
+  pub left_gross : d ≡ request.ShowGross → left_of (Ok tt) (with_display st display.Gross) false false None ≡ granted_of st x d
   unfolding granted_of
   left_gross e = simp e
 
-  pub left_net : d ≡ request.ShowNet → left_of outcome.Done (with_display st display.Net) false false closed.Nothing ≡ granted_of st x d
+  pub left_net : d ≡ request.ShowNet → left_of (Ok tt) (with_display st display.Net) false false None ≡ granted_of st x d
   unfolding granted_of
   left_net e = simp e
 
   pub left_close : d ≡ request.DayClose → (b : Book) → b ≡ closed_of st.book
-      → left_of outcome.Done (with_book st b) false false (closed.Day st.book) ≡ granted_of st x d
+      → left_of (Ok tt) (with_book st b) false false (Some st.book) ≡ granted_of st x d
   unfolding granted_of
   left_close e b eb = simp (e, eb)
 
   pub left_discharge : d ≡ request.Discharge → (q : Sequence) → q ≡ discharge_sequence st.sequence
-      → left_of outcome.Done (with_sequence st q) true false closed.Nothing ≡ granted_of st x d
+      → left_of (Ok tt) (with_sequence st q) true false None ≡ granted_of st x d
   unfolding granted_of
   left_discharge e q eq = simp (e, eq)
 
 -- what is done of a request is what step 4 leaves
-granted_left : (st : State) (x : Weights) (o : Outcome) (r : Request) →
+granted_left : (st : State) (x : Weights) (o : Result (Unit {0}) Refusal) (r : Request) →
     let g = granted_of st x (grant_of o r) in
     left_of o g.state g.held g.keyed g.closed ≡ unless_refused o st (granted_of st x r)
 unfolding granted_of
-granted_left st x outcome.Done r = refl
-granted_left st x (outcome.Refused n) r = refl
+granted_left st x (Ok tt) r = refl
+granted_left st x (Err n) r = refl
 
-module _ {s : Settings} {st : State} {i : Input} {raw : Raw} {q : Stability} {b : Book} {x : Weights} {o : Outcome} {d : Request}
-    {st' : State} {held keyed : Bool} {day : Closed} {x' : Weights} {idle : Bool} {w : Weighing}
+module _ {s : Settings} {st : State} {i : Input} {raw : Option ℤ} {q : Stability} {b : Book} {x : Weights} {o : Result (Unit {0}) Refusal} {d : Request}
+    {st' : State} {held keyed : Bool} {day : Option Book} {x' : Weights} {idle : Bool} {w : Weighing}
     (p : Asked s st i raw q b x o d st' held keyed day x' idle w) where
   left_settled : left_of o st' held keyed day ≡ settled_of s st i
   unfolding settled_of decided_of ruling_of entered_of weights_of

@@ -1,4 +1,5 @@
 -- What a tick does to the totals, beside what it does to the ledger: steps 4 and 6. Assumes nothing.
+use Rattle.std.specs.Prelude.{Option, None, Some, Ok, Err, ℤ, ℕ}
 use mathlib.Core.Path.{◌≡◌, refl, sym, ap, ◌∙◌, subst}
 use mathlib.Core.Bool.{Bool, true, false, cond, not, ◌&&◌}
 use mathlib.Core.List.{[], ◌∷◌}
@@ -14,9 +15,6 @@ use Rattle.types.specs.declared.weight.Weights.{Weights}
 use Rattle.types.specs.declared.requests.Request.{Request}
 use Rattle.types.specs.declared.requests.Request.TheVariants as request
 use Rattle.types.specs.declared.requests.Refusal.TheVariants as refusal
-use Rattle.types.specs.declared.requests.Outcome.TheVariants as outcome
-use Rattle.types.specs.declared.stages.Batch.{Batch}
-use Rattle.types.specs.declared.stages.Batch.TheVariants as batch
 use Rattle.types.specs.declared.stages.Totals.{Totals}
 use Rattle.types.specs.declared.machine.State.{State}
 use Rattle.types.specs.declared.machine.Input.{Input}
@@ -35,9 +33,9 @@ use Rattle.outline.proofs.FinishStep.{tick_finish, tick_weight}
 
 -- ---- how the totals agree with the ledger
 -- the differences of an undo do not stop at 0
-abbrev pub Undoable : Batch → Totals → Type 0
-Undoable batch.Nothing t = Unit {0}
-Undoable (batch.Weight v) t = (v ≤ t.total) × (1 ≤ t.count)
+abbrev pub Undoable : Option ℕ → Totals → Type 0
+Undoable None t = Unit {0}
+Undoable (Some v) t = (v ≤ t.total) × (1 ≤ t.count)
 
 pub record Totalled (t : Totals) (l : Ledger) : Type 0 where
   pub total : t.total + sum_n l.taken ≡ sum_n l.booked
@@ -48,13 +46,13 @@ pub record Totalled (t : Totals) (l : Ledger) : Type 0 where
   pub count_limit_lem : t.count ≤ batch_limit
 
 -- ---- step 4: an undo and a clear alone change them; an undo is refused where it would change nothing
-undo_totals : (t : Totals) → cond (done_of (cond (none_back t.back) (outcome.Refused refusal.NothingToTakeBack) outcome.Done)) (taken_back t) t ≡ taken_back t
+undo_totals : (t : Totals) → cond (done_of (cond (none_back t.back) (Err refusal.NothingToTakeBack) (Ok tt))) (taken_back t) t ≡ taken_back t
 unfolding taken_back
 undo_totals t = go t.back
   where
-    go : (b : Batch) → cond (done_of (cond (none_back b) (outcome.Refused refusal.NothingToTakeBack) outcome.Done)) (less_batch t b) t ≡ less_batch t b
-    go batch.Nothing = refl
-    go (batch.Weight v) = refl
+    go : (b : Option ℕ) → cond (done_of (cond (none_back b) (Err refusal.NothingToTakeBack) (Ok tt))) (less_batch t b) t ≡ less_batch t b
+    go None = refl
+    go (Some v) = refl
 
 settled_totals : (s : Settings) (st : State) (x : Weights) (r : Request) → (decided_of s st x r).state.totals ≡ totals_asked (request_kind r).ledger st.totals
 unfolding decided_of ruling_of granted_of
@@ -89,10 +87,10 @@ unfolding ended_of with_tracking stepped_of finished_of
 ended_totals s a x = finish_cond a.held _ _ _
 
 -- ---- each beside the ledger
-take_back_lem : (t : Totals) (l : Ledger) (b : Batch) → t.back ≡ b → Totalled t l → Totalled (less_batch t b) (take_back l b)
-take_back_lem t l batch.Nothing e h = h
-take_back_lem t l (batch.Weight v) e h =
-    let room : (v ≤ t.total) × (1 ≤ t.count) = subst (λ (b : Batch). Undoable b t) e h.undoable in
+take_back_lem : (t : Totals) (l : Ledger) (b : Option ℕ) → t.back ≡ b → Totalled t l → Totalled (less_batch t b) (take_back l b)
+take_back_lem t l None e h = h
+take_back_lem t l (Some v) e h =
+    let room : (v ≤ t.total) × (1 ≤ t.count) = subst (λ (b : Option ℕ). Undoable b t) e h.undoable in
     record {
       total = omega (arith, h.total, room.0);
       count = omega (arith, h.count, room.1);
@@ -105,7 +103,7 @@ take_back_lem t l (batch.Weight v) e h =
 ask_total : (t : Totals) (l : Ledger) (a : Asked) → Totalled t l → Totalled (totals_asked a t) (ask_step a l)
 unfolding taken_back
 ask_total t l nothing h = h
-ask_total t l undo h = subst (λ (b : Batch). Totalled (taken_back t) (take_back l b)) h.back (take_back_lem t l t.back refl h)
+ask_total t l undo h = subst (λ (b : Option ℕ). Totalled (taken_back t) (take_back l b)) h.back (take_back_lem t l t.back refl h)
 ask_total t l clear h = record { total = refl; count = refl; back = refl; undoable = tt; total_limit_lem = omega arith; count_limit_lem = omega arith }
 
 finish_total : (t : Totals) (l : Ledger) (f : Bool) (v : ℤ) → Totalled t l → Totalled (finish_totals f v t) (finish_step f v l)
@@ -122,7 +120,7 @@ finish_total t l true v h = go (bookable t v) (can_book l v) same refl
         many : t.count ≡ count_of l
         many = omega (arith, h.count)
 
-    go : (b c : Bool) → b ≡ c → bookable t v ≡ b → Totalled (cond b (grown_of t v) t) (cond c (record { booked = nat_abs v ∷ l.booked; taken = l.taken; back = batch.Weight (nat_abs v) }) l)
+    go : (b c : Bool) → b ≡ c → bookable t v ≡ b → Totalled (cond b (grown_of t v) t) (cond c (record { booked = nat_abs v ∷ l.booked; taken = l.taken; back = Some (nat_abs v) }) l)
     go true true e k =
         let fits = links (non_neg v) (leb (t.total + nat_abs v) total_limit ∷ leb (suc t.count) batch_limit ∷ []) k in
         record {

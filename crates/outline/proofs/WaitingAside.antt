@@ -1,15 +1,13 @@
 -- What waits changes no part of the state but the two sets, and a write outside 00 does no more than none. Assumes nothing.
+use Rattle.std.specs.Prelude.{Option, None, Result, Ok, Err}
 use mathlib.Core.Path.{◌≡◌, refl, sym, ap, ◌∙◌}
 use mathlib.Core.Bool.{Bool, true, false, cond}
+use Rattle.types.specs.declared.requests.Refusal.{Refusal}
 use Rattle.types.specs.declared.settings.Settings.{Settings}
 use Rattle.types.specs.declared.weight.Weights.{Weights}
-use Rattle.types.specs.declared.daybook.Closed.TheVariants as closed
 use Rattle.types.specs.declared.requests.Request.{Request}
 use Rattle.types.specs.declared.requests.Request.TheVariants as request
-use Rattle.types.specs.declared.requests.Outcome.{Outcome}
-use Rattle.types.specs.declared.requests.Outcome.TheVariants as outcome
 use Rattle.types.specs.declared.stages.Setpoints.{Setpoints}
-use Rattle.types.specs.declared.stages.Waiting.{Waiting}
 use Rattle.types.specs.declared.machine.State.{State}
 use Rattle.types.specs.declared.machine.Input.{Input}
 use Rattle.types.specs.declared.machine.Settled.{Settled}
@@ -31,7 +29,7 @@ record Alike (a b : Settled) : Type 0 where
 -- ---- steps 5 and 6 ask for no more than that
 end_of : Settings → Bool → Bool → State → Setpoints → Weights → State
 end_of s held keyed st p x =
-    beside_sets (ended_of s (record { outcome = outcome.Done; state = with_setpoints st p; held = held; keyed = keyed; closed = closed.Nothing }) x)
+    beside_sets (ended_of s (record { outcome = Ok tt; state = with_setpoints st p; held = held; keyed = keyed; closed = None }) x)
 
 ended_by : (s : Settings) (a : Settled) (x : Weights)
     → beside_sets (ended_of s a x) ≡ end_of s a.held a.keyed (beside_sets a.state) a.state.setpoints x
@@ -58,7 +56,7 @@ unfolding served_of weights_of
 served_alike s st st' i j en ec e = λ k. weights_of s (e.rest k) (raw_of s.calibration (en k)) (ec k)
 
 -- ---- whatever waits
-granted_alike : (st : State) (w : Waiting) (x : Weights) (r : Request) → Alike (granted_of (with_waiting st w) x r) (granted_of st x r)
+granted_alike : (st : State) (w : Option Setpoints) (x : Weights) (r : Request) → Alike (granted_of (with_waiting st w) x r) (granted_of st x r)
 unfolding granted_of
 granted_alike st w x request.Nothing = record { held = refl; keyed = refl; rest = refl; used = λ e. refl }
 granted_alike st w x request.Zero = record { held = refl; keyed = refl; rest = refl; used = λ e. refl }
@@ -74,19 +72,19 @@ granted_alike st w x request.ShowNet = record { held = refl; keyed = refl; rest 
 granted_alike st w x request.DayClose = record { held = refl; keyed = refl; rest = refl; used = λ e. refl }
 granted_alike st w x request.Discharge = record { held = refl; keyed = refl; rest = refl; used = λ e. refl }
 
-decided_alike : (s : Settings) (st : State) (w : Waiting) (x : Weights) (r : Request)
+decided_alike : (s : Settings) (st : State) (w : Option Setpoints) (x : Weights) (r : Request)
     → Alike (decided_of s (with_waiting st w) x r) (decided_of s st x r)
 unfolding decided_of ruling_of
 decided_alike s st w x r = go (ruling_of s st x r)
   where
-    go : (o : Outcome) → Alike (unless_refused o (with_waiting st w) (granted_of (with_waiting st w) x r)) (unless_refused o st (granted_of st x r))
-    go outcome.Done = record { held = e.held; keyed = e.keyed; rest = e.rest; used = e.used }
+    go : (o : Result (Unit {0}) Refusal) → Alike (unless_refused o (with_waiting st w) (granted_of (with_waiting st w) x r)) (unless_refused o st (granted_of st x r))
+    go (Ok tt) = record { held = e.held; keyed = e.keyed; rest = e.rest; used = e.used }
       where
         e : Alike (granted_of (with_waiting st w) x r) (granted_of st x r)
         e = granted_alike st w x r
-    go (outcome.Refused n) = record { held = refl; keyed = refl; rest = refl; used = λ e. refl }
+    go (Err n) = record { held = refl; keyed = refl; rest = refl; used = λ e. refl }
 
-settled_alike : (s : Settings) (st : State) (w : Waiting) (i : Input) → Alike (settled_of s (with_waiting st w) i) (settled_of s st i)
+settled_alike : (s : Settings) (st : State) (w : Option Setpoints) (i : Input) → Alike (settled_of s (with_waiting st w) i) (settled_of s st i)
 unfolding settled_of entered_of weights_of
 settled_alike s st w i = decided_alike s _ w _ i.request
 
@@ -96,11 +94,11 @@ waiting_aside s st w i =
     ended_alike s _ _ _ _ (settled_alike s st w i) (served_alike s (with_waiting st w) st i i refl refl (settled_alike s st w i))
 
 -- ---- a write outside 00
-stored_alike : (s : Settings) (st : State) (x : Weights) (p : Setpoints) (o : Outcome) → idle_now st ≡ false
-    → Alike (unless_refused o st (granted_of st x (request.Set p))) (unless_refused outcome.Done st (granted_of st x request.Nothing))
+stored_alike : (s : Settings) (st : State) (x : Weights) (p : Setpoints) (o : Result (Unit {0}) Refusal) → idle_now st ≡ false
+    → Alike (unless_refused o st (granted_of st x (request.Set p))) (unless_refused (Ok tt) st (granted_of st x request.Nothing))
 unfolding granted_of
-stored_alike s st x p outcome.Done e = record { held = refl; keyed = refl; rest = refl; used = λ h. ap (λ (t : Bool). cond t p st.setpoints) e }
-stored_alike s st x p (outcome.Refused n) e = record { held = refl; keyed = refl; rest = refl; used = λ h. refl }
+stored_alike s st x p (Ok tt) e = record { held = refl; keyed = refl; rest = refl; used = λ h. ap (λ (t : Bool). cond t p st.setpoints) e }
+stored_alike s st x p (Err n) e = record { held = refl; keyed = refl; rest = refl; used = λ h. refl }
 
 written_alike : (s : Settings) (st : State) (i : Input) (p : Setpoints) → idle_now st ≡ false → i.request ≡ request.Set p
     → Alike (settled_of s st i) (settled_of s st (without_request i))

@@ -1,17 +1,14 @@
 -- What waits is the last accepted write since the stage was last 00, the set in use stays while it is not 00, and what RS reads is the last
 -- accepted write of all. Assumes nothing.
+use Rattle.std.specs.Prelude.{Option, None, Some, Result, Ok, Err}
 use mathlib.Core.Path.{◌≡◌, refl, sym, ap, ◌∙◌}
 use mathlib.Core.Bool.{Bool, true, false, cond}
+use Rattle.types.specs.declared.requests.Refusal.{Refusal}
 use Rattle.types.specs.declared.settings.Settings.{Settings}
 use Rattle.types.specs.declared.weight.Weights.{Weights}
 use Rattle.types.specs.declared.requests.Request.{Request}
 use Rattle.types.specs.declared.requests.Request.TheVariants as request
-use Rattle.types.specs.declared.requests.Outcome.{Outcome}
-use Rattle.types.specs.declared.requests.Outcome.TheVariants as outcome
 use Rattle.types.specs.declared.stages.Setpoints.{Setpoints}
-use Rattle.types.specs.declared.stages.Waiting.{Waiting}
-use Rattle.types.specs.declared.stages.Write.{Write}
-use Rattle.types.specs.declared.stages.Write.TheVariants as write
 use Rattle.types.specs.declared.machine.State.{State}
 use Rattle.types.specs.declared.machine.Input.{Input}
 use Rattle.outline.specs.Setpoints.{none_waiting, written_else, latest_of}
@@ -48,7 +45,7 @@ module _ (st : State) (x : Weights) where
 
   -- what waits is what is written, if anything is
   granted_waits : (r : Request) → idle_now (granted_of st x r).state ≡ false
-      → (granted_of st x r).state.waiting.write ≡ replaces (request_kind r).writes st.waiting.write
+      → (granted_of st x r).state.waiting ≡ replaces (request_kind r).writes st.waiting
   unfolding granted_of
   granted_waits request.Nothing e = refl
   granted_waits request.Zero e = refl
@@ -69,20 +66,20 @@ module _ (s : Settings) (st : State) (x : Weights) (r : Request) where
   unfolding decided_of
   decided_used = go (ruling_of s st x r)
     where
-      go : (o : Outcome) → idle_of (cond (done_of o) (granted_of st x r).state.sequence st.sequence).stage ≡ false
+      go : (o : Result (Unit {0}) Refusal) → idle_of (cond (done_of o) (granted_of st x r).state.sequence st.sequence).stage ≡ false
           → cond (done_of o) (granted_of st x r).state.setpoints st.setpoints ≡ st.setpoints
-      go outcome.Done e = granted_used st x r e
-      go (outcome.Refused n) e = refl
+      go (Ok tt) e = granted_used st x r e
+      go (Err n) e = refl
 
   decided_waits : idle_now (decided_of s st x r).state ≡ false
-      → (decided_of s st x r).state.waiting.write ≡ replaces (request_kind (grant_of (decided_of s st x r).outcome r)).writes st.waiting.write
+      → (decided_of s st x r).state.waiting ≡ replaces (request_kind (grant_of (decided_of s st x r).outcome r)).writes st.waiting
   unfolding decided_of
   decided_waits = go (ruling_of s st x r)
     where
-      go : (o : Outcome) → idle_of (cond (done_of o) (granted_of st x r).state.sequence st.sequence).stage ≡ false
-          → (cond (done_of o) (granted_of st x r).state.waiting st.waiting).write ≡ replaces (request_kind (grant_of o r)).writes st.waiting.write
-      go outcome.Done e = granted_waits st x r e
-      go (outcome.Refused n) e = refl
+      go : (o : Result (Unit {0}) Refusal) → idle_of (cond (done_of o) (granted_of st x r).state.sequence st.sequence).stage ≡ false
+          → cond (done_of o) (granted_of st x r).state.waiting st.waiting ≡ replaces (request_kind (grant_of o r)).writes st.waiting
+      go (Ok tt) e = granted_waits st x r e
+      go (Err n) e = refl
 
 -- ---- a whole tick
 module _ (s : Settings) (st : State) (i : Input) where
@@ -91,7 +88,7 @@ module _ (s : Settings) (st : State) (i : Input) where
   settled_used = decided_used s _ _ i.request
 
   settled_waits : idle_now (settled_of s st i).state ≡ false
-      → (settled_of s st i).state.waiting.write ≡ replaces (request_kind (grant_of (settled_of s st i).outcome i.request)).writes st.waiting.write
+      → (settled_of s st i).state.waiting ≡ replaces (request_kind (grant_of (settled_of s st i).outcome i.request)).writes st.waiting
   unfolding settled_of entered_of
   settled_waits = decided_waits s _ _ i.request
 
@@ -109,33 +106,33 @@ module _ (s : Settings) (st : State) (i : Input) where
   tick_used e = (ended_runs s (settled_of s st i) (served_of s st i) e).0 ∙ settled_used (still_runs e)
 
   tick_waits : idle_now (next_of s st i) ≡ false
-      → (next_of s st i).waiting.write ≡ replaces (request_kind (grant_of (settled_of s st i).outcome i.request)).writes st.waiting.write
+      → (next_of s st i).waiting ≡ replaces (request_kind (grant_of (settled_of s st i).outcome i.request)).writes st.waiting
   unfolding next_of
   tick_waits e =
-      ap (λ (w : Waiting). w.write) (ended_runs s (settled_of s st i) (served_of s st i) e).1 ∙ settled_waits (still_runs e)
+      (ended_runs s (settled_of s st i) (served_of s st i) e).1 ∙ settled_waits (still_runs e)
 
 pub in_use_stays : InUseStays
 unfolding tick_of outputs_of
 in_use_stays s st i e = tick_used s st i e
 
 -- ---- a whole run
-by_stage : (t : Bool) (a b n : Write) → (t ≡ true → a ≡ n) → (t ≡ false → a ≡ b) → a ≡ cond t n b
+by_stage : (t : Bool) (a b n : Option Setpoints) → (t ≡ true → a ≡ n) → (t ≡ false → a ≡ b) → a ≡ cond t n b
 by_stage true a b n p q = p refl
 by_stage false a b n p q = q refl
 
 seen : (s : Settings) (st : State) (i : Input) → (idle_now (next_of s st i) ≡ true → (next_of s st i).waiting ≡ none_waiting) →
     let t = points_seen s st i in
-    (next_of s st i).waiting.write ≡ cond t.idle write.Nothing (replaces t.write st.waiting.write)
+    (next_of s st i).waiting ≡ cond t.idle None (replaces t.write st.waiting)
 unfolding points_seen tick_of outputs_of
 seen s st i n =
-    by_stage (idle_now (next_of s st i)) _ _ _ (λ e. ap (λ (w : Waiting). w.write) (n e)) (tick_waits s st i)
+    by_stage (idle_now (next_of s st i)) _ _ _ (λ e. (n e)) (tick_waits s st i)
 
 pub waiting_of_writes : WaitingOfWrites
 unfolding run_of open_state
 waiting_of_writes s a start = refl
 waiting_of_writes s a (h ▷ i) =
     seen s (run_of s h) i (run_in s (h ▷ i)).together.none_waits
-    ∙ ap (λ (w : Write). let t = points_seen s (run_of s h) i in cond t.idle write.Nothing (replaces t.write w)) (waiting_of_writes s a h)
+    ∙ ap (λ (w : Option Setpoints). let t = points_seen s (run_of s h) i in cond t.idle None (replaces t.write w)) (waiting_of_writes s a h)
 
 -- ---- the set written last: what RS reads
 granted_reads : (st : State) (x : Weights) (r : Request) → (idle_now st ≡ true → st.waiting ≡ none_waiting)
@@ -161,10 +158,10 @@ module _ (s : Settings) where
   unfolding decided_of
   decided_reads st x r n = go (ruling_of s st x r)
     where
-      go : (o : Outcome) → latest_of (cond (done_of o) (granted_of st x r).state.setpoints st.setpoints) (cond (done_of o) (granted_of st x r).state.waiting st.waiting)
+      go : (o : Result (Unit {0}) Refusal) → latest_of (cond (done_of o) (granted_of st x r).state.setpoints st.setpoints) (cond (done_of o) (granted_of st x r).state.waiting st.waiting)
           ≡ written_else (request_kind (grant_of o r)).writes (read_of st)
-      go outcome.Done = granted_reads st x r n
-      go (outcome.Refused k) = refl
+      go (Ok tt) = granted_reads st x r n
+      go (Err k) = refl
 
   settled_reads : (st : State) (i : Input) → (idle_now st ≡ true → st.waiting ≡ none_waiting)
       → read_of (settled_of s st i).state ≡ written_else (request_kind (grant_of (settled_of s st i).outcome i.request)).writes (read_of st)
@@ -177,20 +174,20 @@ module _ (s : Settings) where
   tick_reads st i n = ended_latest s (settled_of s st i) (served_of s st i) ∙ settled_reads st i n
 
 -- the history's own words for a write that replaces what was read
-replaced : (w : Write) (p : Setpoints) → write.Points (written_else w p) ≡ replaces w (write.Points p)
-replaced write.Nothing p = refl
-replaced (write.Points n) p = refl
+replaced : (w : Option Setpoints) (p : Setpoints) → Some (written_else w p) ≡ replaces w (Some p)
+replaced None p = refl
+replaced (Some n) p = refl
 
-reads_last : (s : Settings) (h : History Input) → write.Points (read_of (run_of s h)) ≡ written_last (points_run s h)
+reads_last : (s : Settings) (h : History Input) → Some (read_of (run_of s h)) ≡ written_last (points_run s h)
 unfolding run_of open_state
 reads_last s start = refl
 reads_last s (h ▷ i) =
-    ap write.Points (tick_reads s (run_of s h) i (run_in s h).together.none_waits)
+    ap Some (tick_reads s (run_of s h) i (run_in s h).together.none_waits)
     ∙ replaced (points_seen s (run_of s h) i).write (read_of (run_of s h))
     ∙ ap (replaces (points_seen s (run_of s h) i).write) (reads_last s h)
 
 pub latest_of_writes : LatestOfWrites
 latest_of_writes s a h = record {
   read = reads_last s h;
-  in_use = λ e. sym (ap (λ (w : Waiting). write.Points (latest_of (run_of s h).setpoints w)) ((run_in s h).together.none_waits e)) ∙ reads_last s h;
+  in_use = λ e. sym (ap (λ (w : Option Setpoints). Some (latest_of (run_of s h).setpoints w)) ((run_in s h).together.none_waits e)) ∙ reads_last s h;
 }

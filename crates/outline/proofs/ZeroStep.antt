@@ -1,4 +1,5 @@
 -- What a tick does to the zero in force, beside what it does to the history of zeros: steps 4 and 5. Assumes nothing.
+use Rattle.std.specs.Prelude.{Option, None, Some, ℤ, ℕ}
 use mathlib.Core.Path.{◌≡◌, refl, sym, ap, ◌∙◌, subst}
 use mathlib.Core.Bool.{Bool, true, false, cond, ◌&&◌}
 use mathlib.Core.List.{[], ◌∷◌}
@@ -12,8 +13,6 @@ use borrow.Author.Tests.{leb-true, leb-false, ltb-true, eqb-true, eq-eqb, ne_eqb
 use Rattle.whole.specs.Ints.{ints, linear, ints3}
 use Rattle.types.specs.declared.settings.Tracking.{Tracking}
 use Rattle.types.specs.declared.settings.Settings.{Settings}
-use Rattle.types.specs.declared.weight.Raw.{Raw}
-use Rattle.types.specs.declared.weight.Raw.TheVariants.{Bad, Tenths}
 use Rattle.types.specs.declared.weight.Stability.{Stability}
 use Rattle.types.specs.declared.weight.Weighing.{Weighing}
 use Rattle.types.specs.declared.weight.Weights.{Weights}
@@ -228,7 +227,7 @@ calm_keyed t idle x = simp and_no
 
 -- ---- steps 4 and 5, on a bad tick, on one with an accepted zero, and on any other
 module _ (s : Settings) (q : Stability) (w : Weighing) (idle contact : Bool) where
-  step_bad : (z : Zeroing) (keyed : Bool) → Zeroed s (zeros_of w) z → Zeroed s (zeros_of (tracked_of s idle keyed (weigh_of s q w Bad contact) w)) (restless z)
+  step_bad : (z : Zeroing) (keyed : Bool) → Zeroed s (zeros_of w) z → Zeroed s (zeros_of (tracked_of s idle keyed (weigh_of s q w None contact) w)) (restless z)
   unfolding tracked_of weigh_of
   step_bad z keyed h = simp and_no (rest s w z h)
 
@@ -237,36 +236,36 @@ module _ (s : Settings) (q : Stability) (w : Weighing) (idle contact : Bool) whe
   step_keyed z x h = rw (calm_keyed s.tracking idle x, and_no (tracking_on s.tracking)) (rest s w z h)
 
   step_free : (z : Zeroing) (x : ℤ) → Zeroed s (zeros_of w) z →
-      Zeroed s (zeros_of (tracked_of s idle false (weigh_of s q w (Tenths x) contact) w)) (zero_step s z (record { raw = Tenths x; contact = contact; idle = idle; keyed = false }) (Tenths x))
+      Zeroed s (zeros_of (tracked_of s idle false (weigh_of s q w (Some x) contact) w)) (zero_step s z (record { raw = Some x; contact = contact; idle = idle; keyed = false }) (Some x))
   unfolding tracked_of weigh_of
   step_free z x h =
-      subst (λ (t : Bool). Zeroed s (zeros_of (tracked_of s idle false (weigh_of s q w (Tenths x) contact) w)) (cond t (calm_step s z x) (restless z))) same
-      (free s w z h (weigh_of s q w (Tenths x) contact) (λ i. x -ℤ h.zero i) _ (calm_of s.tracking idle false (weigh_of s q w (Tenths x) contact)) refl)
+      subst (λ (t : Bool). Zeroed s (zeros_of (tracked_of s idle false (weigh_of s q w (Some x) contact) w)) (cond t (calm_step s z x) (restless z))) same
+      (free s w z h (weigh_of s q w (Some x) contact) (λ i. x -ℤ h.zero i) _ (calm_of s.tracking idle false (weigh_of s q w (Some x) contact)) refl)
     where
-      same : calm_of s.tracking idle false (weigh_of s q w (Tenths x) contact) ≡ is_calm s z (record { raw = Tenths x; contact = contact; idle = idle; keyed = false }) x
+      same : calm_of s.tracking idle false (weigh_of s q w (Some x) contact) ≡ is_calm s z (record { raw = Some x; contact = contact; idle = idle; keyed = false }) x
       same = simp (and_yes, h.zero)
 
   -- w after step 4 of w₀: with an accepted zero its zero is this tick's raw
-  tracked_zeros : (w₀ : Zeros) (z : Zeroing) (keyed : Bool) (raw : Raw) (x : ℤ) → zeros_of w ≡ keyed_zeros keyed x w₀
-      → ((y : ℤ) → raw ≡ Tenths y → x ≡ y) → (raw ≡ Bad → keyed ≡ false) → Zeroed s w₀ z
+  tracked_zeros : (w₀ : Zeros) (z : Zeroing) (keyed : Bool) (raw : Option ℤ) (x : ℤ) → zeros_of w ≡ keyed_zeros keyed x w₀
+      → ((y : ℤ) → raw ≡ Some y → x ≡ y) → (raw ≡ None → keyed ≡ false) → Zeroed s w₀ z
       → Zeroed s (zeros_of (tracked_of s idle keyed (weigh_of s q w raw contact) w)) (zero_step s z (record { raw = raw; contact = contact; idle = idle; keyed = keyed }) raw)
-  tracked_zeros w₀ z keyed Bad x e y k h = step_bad z keyed (rw (e ∙ ap (λ (t : Bool). keyed_zeros t x w₀) (k refl)) h)
-  tracked_zeros w₀ z false (Tenths v) x e y k h = step_free z v (rw e h)
-  tracked_zeros w₀ z true (Tenths v) x e y k h =
-      step_keyed (record { keyed = v; moves = []; calm = z.calm }) (weigh_of s q w (Tenths v) contact)
+  tracked_zeros w₀ z keyed None x e y k h = step_bad z keyed (rw (e ∙ ap (λ (t : Bool). keyed_zeros t x w₀) (k refl)) h)
+  tracked_zeros w₀ z false (Some v) x e y k h = step_free z v (rw e h)
+  tracked_zeros w₀ z true (Some v) x e y k h =
+      step_keyed (record { keyed = v; moves = []; calm = z.calm }) (weigh_of s q w (Some v) contact)
       (rw e (record { zero = y v refl ∙ sym (plus_nought v); tracked = refl; counter = h.counter; allowed = omega arith; each = tt }))
 
-weigh_raw : (s : Settings) (q : Stability) (w : Weighing) (raw : Raw) (contact : Bool) (y : ℤ) → raw ≡ Tenths y → (weigh_of s q w raw contact).raw ≡ y
+weigh_raw : (s : Settings) (q : Stability) (w : Weighing) (raw : Option ℤ) (contact : Bool) (y : ℤ) → raw ≡ Some y → (weigh_of s q w raw contact).raw ≡ y
 unfolding weigh_of
 weigh_raw s q w raw contact y e = rw e
 
-weigh_bad : (s : Settings) (q : Stability) (w : Weighing) (raw : Raw) (contact : Bool) → raw ≡ Bad → (weigh_of s q w raw contact).good ≡ false
+weigh_bad : (s : Settings) (q : Stability) (w : Weighing) (raw : Option ℤ) (contact : Bool) → raw ≡ None → (weigh_of s q w raw contact).good ≡ false
 unfolding weigh_of
 weigh_bad s q w raw contact e = rw e
 
 -- ---- the whole tick
 module _ (s : Settings) (st : State) (i : Input) where
-  abbrev raw₁ : Raw
+  abbrev raw₁ : Option ℤ
   raw₁ = raw_of s.calibration i.count
 
   abbrev st₂ : State

@@ -1,12 +1,11 @@
 -- What the definitions of the analog value owe a plant, for every pair of ends that settings may have. Statements only.
 -- A float is exactly a number where it is equal to `f64` of it. Order of floats is `le`, as a machine compares them. Assumes nothing.
-use Rattle.std.specs.Prelude.{◌≡◌, Bool, true, false, not, cond, ℕ, ◌*◌, ◌≤◌, T, ℤ, pos, nat_abs, ◌-ℤ◌, Float}
+use Rattle.std.specs.Prelude.{◌≡◌, Bool, true, false, not, cond, ℕ, ◌*◌, ◌≤◌, T, ℤ, pos, nat_abs, ◌-ℤ◌, Float, Some}
 use Rattle.std.specs.Int.Signed.{le_z, lt_z}
 use Rattle.std.specs.Float.{fin, binary64}
 use Rattle.std.specs.Float.Ieee.{round, add, le}
 use Rattle.types.specs.declared.settings.Given.{Given}
 use Rattle.types.specs.declared.settings.Settings.{Settings}
-use Rattle.types.specs.declared.settings.Opening.TheVariants as opening
 use Rattle.types.specs.declared.analog.Board.TheVariants as board
 use Rattle.types.specs.declared.analog.Analog.TheVariants as analog
 use Rattle.outline.specs.Limits.{end_limit, display_limit}
@@ -78,7 +77,7 @@ pub record Kept (g : Given) (s : Settings) : Type 0 where
   pub scale : s.scale ≡ scale_of g.low g.high
 
 abbrev pub ScaleLaw : Type 0
-ScaleLaw = (g : Given) (s : Settings) → open_of g ≡ opening.Accepted s → Kept g s
+ScaleLaw = (g : Given) (s : Settings) → open_of g ≡ Some s → Kept g s
 
 abbrev pub AnalogLaws : Type 0
 AnalogLaws =

@@ -1,6 +1,7 @@
 -- The number that each call has to answer, worked out as a number from the outline's own tables and sentences. Numbers gives the number of
 -- each case of an answer; the calls promise that the two are the same.
-use Rattle.std.specs.Prelude.{ℕ, suc, Bool, true, false, cond, not, ◌&&◌, ◌||◌, List, [], ◌∷◌, leb, eqb, length, get_or, ℤ, Float}
+use Rattle.std.specs.Prelude.{ℕ, suc, Bool, true, false, cond, not, ◌&&◌, ◌||◌, List, [], ◌∷◌, leb, eqb, length, get_or, ℤ, Float, Option, None, Some, Result, Ok, Err}
+use Rattle.types.specs.declared.stages.Setpoints.{Setpoints}
 use Rattle.types.specs.declared.settings.Given.{Given}
 use Rattle.types.specs.declared.settings.Mode.{Mode}
 use Rattle.types.specs.declared.settings.Mode.TheVariants as mode
@@ -11,10 +12,10 @@ use Rattle.types.specs.declared.analog.Scale.{Scale}
 use Rattle.types.specs.declared.weight.Weights.{Weights}
 use Rattle.types.specs.declared.requests.Request.{Request}
 use Rattle.types.specs.declared.requests.Request.TheVariants as request
-use Rattle.types.specs.declared.stages.Write.{Write}
-use Rattle.types.specs.declared.stages.Write.TheVariants as write
-use Rattle.types.specs.declared.lines.Command.{Command}
-use Rattle.types.specs.declared.lines.Command.TheVariants as command
+use Rattle.types.specs.declared.lines.Order.{Order}
+use Rattle.types.specs.declared.lines.LineFault.{LineFault}
+use Rattle.types.specs.declared.lines.Order.TheVariants as order
+use Rattle.types.specs.declared.lines.LineFault.TheVariants as fault
 use Rattle.types.specs.declared.machine.State.{State}
 use Rattle.types.specs.declared.machine.Input.{Input}
 use Rattle.outline.specs.Limits.{block_limit, line_limit}
@@ -88,9 +89,9 @@ abbrev pub is_outside : Settings → Weights → ℕ → Bool
 is_outside s x name = cond (eqb name zero) (not (in_zero_range s.range x.raw)) (not (in_tare_range s.range x.divisions))
 
 -- row 6, "setpoint rules broken"
-abbrev pub is_broken : Settings → Write → Bool
-is_broken s write.Nothing = false
-is_broken s (write.Points p) = not (setpoints_fit s.batching.mode p)
+abbrev pub is_broken : Settings → Option Setpoints → Bool
+is_broken s None = false
+is_broken s (Some p) = not (setpoints_fit s.batching.mode p)
 
 -- A1, row 9: "in mode 2"
 abbrev pub is_loss : Mode → Bool
@@ -156,14 +157,14 @@ abbrev pub has_line : List ℕ → Bool
 has_line receive = has_end receive && leb (bytes_before receive) line_limit
 
 -- what stands after the prefix: 11, 13, or what the tick of its command answers
-abbrev pub body_due : Command → ℕ → ℕ
-body_due (command.Do w) n = n
-body_due (command.Set p) n = n
-body_due command.NoLine n = 11
-body_due command.LongLine n = 11
-body_due command.OtherAddress n = 12
-body_due command.Malformed n = 11
-body_due command.Unknown n = 13
+abbrev pub body_due : Result Order LineFault → ℕ → ℕ
+body_due (Ok (order.Do w)) n = n
+body_due (Ok (order.Set p)) n = n
+body_due (Err fault.NoLine) n = 11
+body_due (Err fault.LongLine) n = 11
+body_due (Err fault.OtherAddress) n = 12
+body_due (Err fault.Malformed) n = 11
+body_due (Err fault.Unknown) n = 13
 
 -- "Refusals in order: 12 prefix missing or of another address; 11 ..; 13 unknown command; 14 reply buffer shorter than the reply due ..
 -- It replaces a number whose NG does not fit. The tests for no line and for 64 bytes come before 12." Those two and 12 have an empty reply,

@@ -1,9 +1,7 @@
 -- The outline's section "Day book (house)", with request A2. Raw, the refill contact, the number of ticks and the day closes enter into it,
 -- and nothing else.
-use Rattle.std.specs.Prelude.{ℕ, suc, Bool, true, false, cond, not, ◌&&◌, ◌||◌, ltb, ℤ, pos, ◌+ℤ◌, ◌-ℤ◌}
+use Rattle.std.specs.Prelude.{ℕ, suc, Bool, true, false, cond, not, ◌&&◌, ◌||◌, ltb, ℤ, pos, ◌+ℤ◌, ◌-ℤ◌, Option, None, Some}
 use Rattle.whole.specs.Limit.{limit_to}
-use Rattle.types.specs.declared.weight.Raw.{Raw}
-use Rattle.types.specs.declared.weight.Raw.TheVariants.{Bad, Tenths}
 use Rattle.types.specs.declared.daybook.Book.{Book}
 use Rattle.outline.specs.Limits.{day_ticks, book_limit}
 
@@ -76,9 +74,9 @@ later_good b raw contact = record {
 }
 
 -- step 2
-unfoldable pub book_of : Book → Raw → Bool → Book
-book_of b Bad contact = bad_tick b
-book_of b (Tenths raw) contact = cond b.begun (later_good b raw contact) (first_good b raw contact)
+unfoldable pub book_of : Book → Option ℤ → Bool → Book
+book_of b None contact = bad_tick b
+book_of b (Some raw) contact = cond b.begun (later_good b raw contact) (first_good b raw contact)
 
 -- "Day close ends the day after step 2; that tick's raw opens the next, its tick count at 0." A close is refused in a bad tick, so
 -- `last` and `contact` are the closing tick's. Both are kept: the next change is from that raw, and A2 asks for that contact "also across a

@@ -1,6 +1,6 @@
 -- Worked by hand from request A1: a discharge tick by tick, its clock and its errors; what BD and other requests are answered, and BD on a
 -- line. Statements; they are computed in proofs/DischargeFigures.antt.
-use Rattle.std.specs.Prelude.{ℕ, zero, suc, ◌≡◌, true, false, List, [], ◌∷◌, ◌++◌, map, replicate, set, ℤ, pos}
+use Rattle.std.specs.Prelude.{ℕ, zero, suc, ◌≡◌, true, false, List, [], ◌∷◌, ◌++◌, map, replicate, set, ℤ, pos, Option, None, Some}
 use Prim.Native.String.{String}
 use Rattle.types.specs.declared.settings.Settings.{Settings}
 use Rattle.types.specs.declared.weight.Display.TheVariants as display
@@ -11,8 +11,6 @@ use Rattle.types.specs.declared.stages.Stage.TheVariants as stage
 use Rattle.types.specs.declared.stages.Judgement.{Judgement}
 use Rattle.types.specs.declared.stages.Judgement.TheVariants as judgement
 use Rattle.types.specs.declared.stages.SequenceError.TheVariants as error
-use Rattle.types.specs.declared.stages.Batch.{Batch}
-use Rattle.types.specs.declared.stages.Batch.TheVariants as batch
 use Rattle.types.specs.declared.machine.State.{State}
 use Rattle.types.specs.declared.machine.Answer.{Answer}
 use Rattle.types.specs.declared.machine.Ticked.{Ticked}
@@ -64,7 +62,7 @@ before = record {
   setpoints = points;
   waiting = none_waiting;
   sequence = record { stage = stage.Idle; clock = 0; error = error.DischargeStopped; judgement = judgement.Ok };
-  totals = record { total = 10; count = 1; back = batch.Weight 10 };
+  totals = record { total = 10; count = 1; back = Some 10 };
 }
 
 -- the ticks of each leg, the first one first
@@ -204,7 +202,7 @@ pub record Day : Type 0 where
   pub judgements : List ℕ
   pub totals : List ℕ
   pub counts : List ℕ
-  pub back : List Batch
+  pub back : List (Option ℕ)
 
 abbrev pub day_of : List Ticked → Day
 day_of ts = record {
@@ -471,7 +469,7 @@ pub record Discharged : Type 0 where
         judgements = replicate 14 0 ++ replicate 15 1 ++ (0 ∷ []);
         totals = replicate 14 0 ++ replicate 12 100 ++ replicate 4 0;
         counts = replicate 14 0 ++ replicate 12 1 ++ replicate 4 0;
-        back = replicate 14 batch.Nothing ++ replicate 12 (batch.Weight 100) ++ replicate 4 batch.Nothing;
+        back = replicate 14 None ++ replicate 12 (Some 100) ++ replicate 4 None;
       }
   -- "Its counter adds one at a tick that is .. in stage 00 ..; any other tick makes it 0.": tracking rests in 14 to 16. Step 5 is before
   -- step 6, so the tick in which 16 ends does not count; a stop is step 4's, and its tick does.

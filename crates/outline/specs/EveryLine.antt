@@ -1,8 +1,7 @@
 -- What holds of every tick with a line, whatever the two buffers: the outline's section "Serial lines" as named statements, for whatever
 -- settings and state, or for every run (4 and 5). They are proved in proofs/, and `every_line` has them as its `ensures`.
-use Rattle.std.specs.Prelude.{ℕ, ◌≤◌, ◌≡◌, Bool, true, false, ◌&&◌, ◌||◌, List, ◌++◌, leb, length, drop, ℤ}
+use Rattle.std.specs.Prelude.{ℕ, ◌≤◌, ◌≡◌, Bool, true, false, ◌&&◌, ◌||◌, List, ◌++◌, leb, length, drop, ℤ, Some, Ok, Err}
 use Rattle.types.specs.declared.settings.Settings.{Settings}
-use Rattle.types.specs.declared.daybook.Closed.TheVariants as closed
 use Rattle.types.specs.declared.stages.Setpoints.{Setpoints}
 use Rattle.types.specs.declared.stages.SequenceError.TheVariants as error
 use Rattle.types.specs.declared.machine.State.{State}
@@ -12,8 +11,9 @@ use Rattle.types.specs.declared.lines.LineTick.{LineTick}
 use Rattle.types.specs.declared.lines.LineKind.TheVariants as kind
 use Rattle.types.specs.declared.lines.Word.{Word}
 use Rattle.types.specs.declared.lines.Word.TheVariants as word
-use Rattle.types.specs.declared.lines.Command.TheVariants as command
-use Rattle.types.specs.declared.lines.LineAnswer.TheVariants as told
+use Rattle.types.specs.declared.lines.Order.TheVariants as order
+use Rattle.types.specs.declared.lines.LineFault.TheVariants as fault
+use Rattle.types.specs.declared.lines.LineRefusal.TheVariants as told
 use Rattle.outline.specs.Limits.{line_limit}
 use Rattle.outline.specs.Stages.{shut}
 use Rattle.outline.specs.Tick.{settled_of, next_of, tick_of, unasked_of}
@@ -43,8 +43,8 @@ pub record Empty (s : Settings) (st : State) (count : ℤ) (contact : Bool) (rec
 pub record Untouched (s : Settings) (st : State) (count : ℤ) (contact : Bool) (receive buffer : List ℕ) : Type 0 where
   pub no_line : kind_of receive ≡ kind.NoLine → Empty s st count contact receive buffer
   pub long_line : kind_of receive ≡ kind.Long → Empty s st count contact receive buffer
-  pub other_address : (line_tick_of s st count contact receive buffer).told ≡ told.OtherAddress → Empty s st count contact receive buffer
-  pub short_buffer : (line_tick_of s st count contact receive buffer).told ≡ told.ShortBuffer → Empty s st count contact receive buffer
+  pub other_address : (line_tick_of s st count contact receive buffer).told ≡ Err told.OtherAddress → Empty s st count contact receive buffer
+  pub short_buffer : (line_tick_of s st count contact receive buffer).told ≡ Err told.ShortBuffer → Empty s st count contact receive buffer
   pub past :
       let n = (line_tick_of s st count contact receive buffer).length in
       drop n (reply_buffer s st count contact receive buffer) ≡ drop n buffer
@@ -74,24 +74,24 @@ is_fitting s st count contact receive buffer = leb (length (due_text s st count 
 pub record Answered (s : Settings) (st : State) (count : ℤ) (contact : Bool) (receive buffer : List ℕ) : Type 0 where
   pub number : is_answer (told_number (line_tick_of s st count contact receive buffer).told) ≡ true
   -- no line, and a line over 64 bytes: 11, also in a buffer without a byte
-  pub no_line : is_line (kind_of receive) ≡ false → (line_tick_of s st count contact receive buffer).told ≡ told.Malformed
+  pub no_line : is_line (kind_of receive) ≡ false → (line_tick_of s st count contact receive buffer).told ≡ Err told.Malformed
   -- else a prefix missing or of another address: 12, likewise
   pub other_address : is_line (kind_of receive) ≡ true → is_prefixed (line_of receive) s.address ≡ false
-      → (line_tick_of s st count contact receive buffer).told ≡ told.OtherAddress
+      → (line_tick_of s st count contact receive buffer).told ≡ Err told.OtherAddress
   -- 14 stands for every answer whose reply has no room; the two above have an empty reply, which always has
   pub short_buffer : is_fitting s st count contact receive buffer ≡ false
-      → (line_tick_of s st count contact receive buffer).told ≡ told.ShortBuffer
+      → (line_tick_of s st count contact receive buffer).told ≡ Err told.ShortBuffer
   -- else 11 or 13, by what stands after the prefix
   pub malformed : is_line (kind_of receive) ≡ true → is_prefixed (line_of receive) s.address ≡ true
-      → body_of (line_of receive) (prefix_length s.address) ≡ command.Malformed → is_fitting s st count contact receive buffer ≡ true
-      → (line_tick_of s st count contact receive buffer).told ≡ told.Malformed
+      → body_of (line_of receive) (prefix_length s.address) ≡ Err fault.Malformed → is_fitting s st count contact receive buffer ≡ true
+      → (line_tick_of s st count contact receive buffer).told ≡ Err told.Malformed
   pub unknown : is_line (kind_of receive) ≡ true → is_prefixed (line_of receive) s.address ≡ true
-      → body_of (line_of receive) (prefix_length s.address) ≡ command.Unknown → is_fitting s st count contact receive buffer ≡ true
-      → (line_tick_of s st count contact receive buffer).told ≡ told.Unknown
+      → body_of (line_of receive) (prefix_length s.address) ≡ Err fault.Unknown → is_fitting s st count contact receive buffer ≡ true
+      → (line_tick_of s st count contact receive buffer).told ≡ Err told.Unknown
   -- else the tick's own outcome: a read, or a request by its letters
-  pub word : (w : Word) → command_of receive s.address ≡ command.Do w → is_fitting s st count contact receive buffer ≡ true
+  pub word : (w : Word) → command_of receive s.address ≡ Ok (order.Do w) → is_fitting s st count contact receive buffer ≡ true
       → (line_tick_of s st count contact receive buffer).told ≡ outcome_told (settled_of s st (asked_of s count contact receive)).outcome
-  pub set : (p : Setpoints) → command_of receive s.address ≡ command.Set p → is_fitting s st count contact receive buffer ≡ true
+  pub set : (p : Setpoints) → command_of receive s.address ≡ Ok (order.Set p) → is_fitting s st count contact receive buffer ≡ true
       → (line_tick_of s st count contact receive buffer).told ≡ outcome_told (settled_of s st (asked_of s count contact receive)).outcome
 
 abbrev pub AnsweredInOrder : Type 0
@@ -110,18 +110,18 @@ RefusedLines = (s : Settings) (st : State) (count : ℤ) (contact : Bool) (recei
 -- ---- 4. "Setpoints written on the line read back as the same figures"
 -- the tick with a line is told 0 and replies with the text, at the buffer's start
 pub record Replied (s : Settings) (st : State) (count : ℤ) (contact : Bool) (receive buffer text : List ℕ) : Type 0 where
-  pub done : (line_tick_of s st count contact receive buffer).told ≡ told.Done
+  pub done : (line_tick_of s st count contact receive buffer).told ≡ Ok tt
   pub long : (line_tick_of s st count contact receive buffer).length ≡ length text
   pub bytes : reply_buffer s st count contact receive buffer ≡ text ++ drop (length text) buffer
 
 -- an accepted SS, then any ticks of which none writes setpoints, then RS with room for its reply: the figures of SS stand in the buffer
 abbrev pub ReadBackOnLine : Type 0
 ReadBackOnLine = (s : Settings) → Accepted s → (h : History Input) (count : ℤ) (contact : Bool) (receive buffer : List ℕ) (p : Setpoints)
-    → command_of receive s.address ≡ command.Set p
-    → (line_tick_of s (run_of s h) count contact receive buffer).told ≡ told.Done
+    → command_of receive s.address ≡ Ok (order.Set p)
+    → (line_tick_of s (run_of s h) count contact receive buffer).told ≡ Ok tt
     → let after = h ▷ line_input s (run_of s h) count contact receive buffer in
     (later : List Input) → NoneSet s (run_of s after) later
-    → (count' : ℤ) (contact' : Bool) (receive' buffer' : List ℕ) → command_of receive' s.address ≡ command.Do word.ReadSetpoints
+    → (count' : ℤ) (contact' : Bool) (receive' buffer' : List ℕ) → command_of receive' s.address ≡ Ok (order.Do word.ReadSetpoints)
     → length (framed s.address (figures_of s receive)) ≤ length buffer'
     → Replied s (run_of s (then_all after later)) count' contact' receive' buffer' (framed s.address (figures_of s receive))
 
@@ -134,9 +134,9 @@ GatesShutOnLine = (s : Settings) → Accepted s → (h : History Input) (count :
 -- ---- 6. a DC that is told 0 answers the book that the same tick without it would have left
 abbrev pub TicketOnLine : Type 0
 TicketOnLine = (s : Settings) (st : State) (count : ℤ) (contact : Bool) (receive buffer : List ℕ)
-    → command_of receive s.address ≡ command.Do word.DayClose
-    → (line_tick_of s st count contact receive buffer).told ≡ told.Done
-    → (line_tick_of s st count contact receive buffer).answer.closed ≡ closed.Day (next_of s st (unasked_of count contact)).book
+    → command_of receive s.address ≡ Ok (order.Do word.DayClose)
+    → (line_tick_of s st count contact receive buffer).told ≡ Ok tt
+    → (line_tick_of s st count contact receive buffer).answer.closed ≡ Some (next_of s st (unasked_of count contact)).book
 
 -- ---- 7. A1: "Feed and discharge are never open together.": in the answer of a tick with a line, of whatever state
 abbrev pub NeverTogetherOnLine : Type 0

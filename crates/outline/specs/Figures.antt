@@ -1,11 +1,10 @@
 -- The outline's section "Figures on both sides", as statements: `Starred` has a field for each starred row, named by its row. They are
 -- proved in proofs/Figures.antt, by computing whole runs through the definitions.
-use Rattle.std.specs.Prelude.{ℕ, zero, suc, ◌≡◌, Bool, true, false, not, ◌&&◌, replicate, get_or, set, ℤ, pos, neg_ℤ, ◌+ℤ◌, ◌-ℤ◌}
+use Rattle.std.specs.Prelude.{ℕ, zero, suc, ◌≡◌, Bool, true, false, not, ◌&&◌, replicate, get_or, set, ℤ, pos, neg_ℤ, ◌+ℤ◌, ◌-ℤ◌, Some}
 use mathlib.Core.List.{List, [], ◌∷◌, foldl}
 use Rattle.std.specs.Float.{fin}
 use Rattle.types.specs.declared.settings.Given.{Given}
 use Rattle.types.specs.declared.settings.Settings.{Settings}
-use Rattle.types.specs.declared.settings.Opening.TheVariants as opening
 use Rattle.types.specs.declared.analog.Analog.TheVariants as analog
 use Rattle.types.specs.declared.requests.Request.{Request}
 use Rattle.types.specs.declared.requests.Request.TheVariants as request
@@ -103,7 +102,7 @@ one_batch = held 103 (held 2 started (pos 0)) (pos 100)
 -- ---- the starred rows
 pub record Starred : Type 0 where
   -- "| S 99,999 * | 10 |", and settings A are accepted
-  pub s_100000 : open_of (given_of list_a) ≡ opening.Accepted settings_a
+  pub s_100000 : open_of (given_of list_a) ≡ Some settings_a
   pub opened : opened_of (open_of (given_of list_a)) ≡ open_state ∷ []
   pub s_99999 : opening_number (open_of (given_of (set list_a 1 (pos 99999)))) ≡ 10
   -- "| count 44; 45; -45 * | 4; 5; -5 |"

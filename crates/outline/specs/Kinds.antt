@@ -1,10 +1,9 @@
 -- For each request, what it asks of the things that the histories keep account of. They know requests by this table alone, so a new request
 -- is one row more.
-use Rattle.std.specs.Prelude.{Bool, true, false}
+use Rattle.std.specs.Prelude.{Bool, true, false, Option, None, Some}
+use Rattle.types.specs.declared.stages.Setpoints.{Setpoints}
 use Rattle.types.specs.declared.requests.Request.{Request}
 use Rattle.types.specs.declared.requests.Request.TheVariants as request
-use Rattle.types.specs.declared.stages.Write.{Write}
-use Rattle.types.specs.declared.stages.Write.TheVariants as write
 
 -- what is asked of the totals
 pub data Asked : Type 0 where
@@ -18,35 +17,35 @@ pub record Kind : Type 0 where
   -- a day close is asked
   pub closes : Bool
   -- the setpoints that it writes, if any
-  pub writes : Write
+  pub writes : Option Setpoints
   -- "Step 6 is passed over in a tick with an accepted start, or a stop."; A1: "BD, like BB, .. passes step 6 over"
   pub skips : Bool
   pub ledger : Asked
 
 -- none of these
 abbrev pub elsewhere : Kind
-elsewhere = record { zeroes = false; closes = false; writes = write.Nothing; skips = false; ledger = nothing }
+elsewhere = record { zeroes = false; closes = false; writes = None; skips = false; ledger = nothing }
 
 -- a start, a stop, a discharge
 abbrev pub skipping : Kind
-skipping = record { zeroes = false; closes = false; writes = write.Nothing; skips = true; ledger = nothing }
+skipping = record { zeroes = false; closes = false; writes = None; skips = true; ledger = nothing }
 
 abbrev pub request_kind : Request → Kind
 request_kind request.Nothing = elsewhere
-request_kind request.Zero = record { zeroes = true; closes = false; writes = write.Nothing; skips = false; ledger = nothing }
+request_kind request.Zero = record { zeroes = true; closes = false; writes = None; skips = false; ledger = nothing }
 request_kind request.Tare = elsewhere
 request_kind request.TareClear = elsewhere
 request_kind request.Start = skipping
 request_kind request.Stop = skipping
-request_kind (request.Set p) = record { zeroes = false; closes = false; writes = write.Points p; skips = false; ledger = nothing }
-request_kind request.TotalClear = record { zeroes = false; closes = false; writes = write.Nothing; skips = false; ledger = clear }
-request_kind request.Undo = record { zeroes = false; closes = false; writes = write.Nothing; skips = false; ledger = undo }
+request_kind (request.Set p) = record { zeroes = false; closes = false; writes = Some p; skips = false; ledger = nothing }
+request_kind request.TotalClear = record { zeroes = false; closes = false; writes = None; skips = false; ledger = clear }
+request_kind request.Undo = record { zeroes = false; closes = false; writes = None; skips = false; ledger = undo }
 request_kind request.ShowGross = elsewhere
 request_kind request.ShowNet = elsewhere
-request_kind request.DayClose = record { zeroes = false; closes = true; writes = write.Nothing; skips = false; ledger = nothing }
+request_kind request.DayClose = record { zeroes = false; closes = true; writes = None; skips = false; ledger = nothing }
 request_kind request.Discharge = skipping
 
 -- setpoints are written
-abbrev pub is_write : Write → Bool
-is_write write.Nothing = false
-is_write (write.Points p) = true
+abbrev pub is_write : Option Setpoints → Bool
+is_write None = false
+is_write (Some p) = true

@@ -1,11 +1,9 @@
 -- The total and the count, made of the batches that finished, the undos and the clears of a run.
-use Rattle.std.specs.Prelude.{ℕ, suc, ◌+◌, ◌-◌, Bool, true, false, cond, not, ◌&&◌, List, [], ◌∷◌, leb, ltb, eqb, length, ℤ, nat_abs, neg_ℤ}
+use Rattle.std.specs.Prelude.{ℕ, suc, ◌+◌, ◌-◌, Bool, true, false, cond, not, ◌&&◌, List, [], ◌∷◌, leb, ltb, eqb, length, ℤ, nat_abs, neg_ℤ, Option, None, Some}
 use Rattle.std.specs.Int.Signed.{non_neg}
 use Rattle.types.specs.declared.settings.Mode.{Mode}
 use Rattle.types.specs.declared.settings.Mode.TheVariants as mode
 use Rattle.types.specs.declared.settings.Settings.{Settings}
-use Rattle.types.specs.declared.stages.Batch.{Batch}
-use Rattle.types.specs.declared.stages.Batch.TheVariants as batch
 use Rattle.types.specs.declared.machine.State.{State}
 use Rattle.types.specs.declared.machine.Input.{Input}
 use Rattle.outline.specs.Limits.{total_limit, batch_limit}
@@ -59,7 +57,7 @@ event_run s (h ▷ i) = event_run s h ▷ event_of s (run_of s h) i
 pub record Ledger : Type 0 where
   pub booked : List ℕ
   pub taken : List ℕ
-  pub back : Batch
+  pub back : Option ℕ
 
 abbrev pub sum_n : List ℕ → ℕ
 sum_n [] = 0
@@ -71,14 +69,14 @@ total_of l = sum_n l.booked - sum_n l.taken
 abbrev pub count_of : Ledger → ℕ
 count_of l = length l.booked - length l.taken
 
-abbrev pub take_back : Ledger → Batch → Ledger
-take_back l batch.Nothing = l
-take_back l (batch.Weight v) = record { booked = l.booked; taken = v ∷ l.taken; back = batch.Nothing }
+abbrev pub take_back : Ledger → Option ℕ → Ledger
+take_back l None = l
+take_back l (Some v) = record { booked = l.booked; taken = v ∷ l.taken; back = None }
 
 abbrev pub ask_step : Asked → Ledger → Ledger
 ask_step nothing l = l
 ask_step undo l = take_back l l.back
-ask_step clear l = record { booked = []; taken = []; back = batch.Nothing }
+ask_step clear l = record { booked = []; taken = []; back = None }
 
 -- a batch is booked if it is 0 or more and neither total nor count would pass its limit
 abbrev pub can_book : Ledger → ℤ → Bool
@@ -86,8 +84,8 @@ can_book l v = non_neg v && leb (total_of l + nat_abs v) total_limit && leb (suc
 
 abbrev pub finish_step : Bool → ℤ → Ledger → Ledger
 finish_step false v l = l
-finish_step true v l = cond (can_book l v) (record { booked = nat_abs v ∷ l.booked; taken = l.taken; back = batch.Weight (nat_abs v) }) l
+finish_step true v l = cond (can_book l v) (record { booked = nat_abs v ∷ l.booked; taken = l.taken; back = Some (nat_abs v) }) l
 
 abbrev pub ledger_of : History Event → Ledger
-ledger_of start = record { booked = []; taken = []; back = batch.Nothing }
+ledger_of start = record { booked = []; taken = []; back = None }
 ledger_of (h ▷ t) = finish_step t.finished t.weight (ask_step t.asked (ledger_of h))

@@ -1,12 +1,11 @@
 -- The outline's section "Figures on both sides", its last part: the lines that the ticket program reads. A line is the list of its bytes,
 -- without the LF that ends it.
-use Rattle.std.specs.Prelude.{ℕ, suc, ◌+◌, ◌-◌, ◌*◌, List, [], ◌∷◌, ◌++◌, Bool, true, false, cond, ◌&&◌, ◌||◌, length, get_or, take, drop, leb, ltb, eqb, ℤ, pos, neg_ℤ}
+use Rattle.std.specs.Prelude.{ℕ, suc, ◌+◌, ◌-◌, ◌*◌, List, [], ◌∷◌, ◌++◌, Bool, true, false, cond, ◌&&◌, ◌||◌, length, get_or, take, drop, leb, ltb, eqb, ℤ, pos, neg_ℤ, Option, Some, None, Ok}
 use Rattle.types.specs.declared.settings.Settings.{Settings}
 use Rattle.types.specs.declared.machine.State.{State}
 use Rattle.types.specs.declared.lines.LineTick.{LineTick}
-use Rattle.types.specs.declared.lines.LineAnswer.TheVariants as told
+use Rattle.types.specs.declared.lines.LineRefusal.TheVariants as told
 use Rattle.types.specs.declared.log.LogNumber.{LogNumber}
-use Rattle.types.specs.declared.log.LogNumber.TheVariants as number
 use Rattle.types.specs.declared.log.LogLine.{LogLine}
 use Rattle.types.specs.declared.log.Line.{Line}
 use Rattle.outline.specs.Limits.{number_digits, request_limit, line_number_limit}
@@ -37,12 +36,13 @@ abbrev pub signed_of : Bool → ℕ → ℤ
 signed_of minus v = cond minus (neg_ℤ (pos v)) (pos v)
 
 -- "an optional minus and 1 to 9 digits", from a place of the line on, as far as the digits go
-unfoldable pub number_at : List ℕ → ℕ → LogNumber
+unfoldable pub number_at : List ℕ → ℕ → Option LogNumber
 number_at line at =
     let from = digits_from line at in
     let n = digit_run (drop from line) in
-    cond (leb 1 n && leb n number_digits) (number.Number (signed_of (is_minus line at) (value_from 0 (take n (drop from line)))) (from + n))
-    number.Unreadable
+    cond (leb 1 n && leb n number_digits)
+    (Some (record { value = signed_of (is_minus line at) (value_from 0 (take n (drop from line))); end = from + n }))
+    None
 
 -- ---- a line
 -- "0 or 1 (closed)"
@@ -56,18 +56,19 @@ is_rest line at =
     && leb (at + 4) (length line) && leb (length line) (at + 3 + request_limit)
 
 -- a line of this count and contact, with its request from a place on
-abbrev pub tick_line : ℤ → Bool → ℕ → LogLine
-tick_line count contact at = record { read = true; count = count; contact = contact; request = at }
+abbrev pub tick_line : ℤ → Bool → ℕ → Option LogLine
+tick_line count contact at = Some (record { count = count; contact = contact; request = at })
 
-abbrev pub unreadable : LogLine
-unreadable = record { read = false; count = pos 0; contact = false; request = 0 }
+-- a line that can't be read says nothing
+abbrev pub unreadable : Option LogLine
+unreadable = None
 
-abbrev pub behind_count : List ℕ → LogNumber → LogLine
-behind_count line (number.Number count at) = cond (is_rest line at) (tick_line count (eqb (get_or line (at + 1) 0) 49) (at + 3)) unreadable
-behind_count line number.Unreadable = unreadable
+abbrev pub behind_count : List ℕ → Option LogNumber → Option LogLine
+behind_count line (Some n) = cond (is_rest line n.end) (tick_line n.value (eqb (get_or line (n.end + 1) 0) 49) (n.end + 3)) unreadable
+behind_count line None = unreadable
 
 -- "lines `count contact request` .., parted by single spaces"
-unfoldable pub log_line_of : List ℕ → LogLine
+unfoldable pub log_line_of : List ℕ → Option LogLine
 log_line_of line = behind_count line (number_at line 0)
 
 -- ---- the lines of an input, of which a buffer holds a piece: the first `all` of its bytes
@@ -123,6 +124,11 @@ unfoldable pub kept_in : List ℕ → ℕ → ℕ → List ℕ
 kept_in space from all = between space from all ++ drop (length (between space from all)) space
 
 -- ---- its request
+-- where it begins; the line's own beginning where it can't be read
+abbrev pub request_place : Option LogLine → ℕ
+request_place (Some said) = said.request
+request_place None = 0
+
 -- "`--` for none"
 unfoldable pub is_none : List ℕ → Bool
 is_none request = eqb (length request) 2 && eqb (get_or request 0 0) 45 && eqb (get_or request 1 0) 45
@@ -139,7 +145,7 @@ received_of request = with_cr_lf (take request_limit request)
 -- the tick of a count, a contact and a request; without a request it has no line and no reply
 unfoldable pub request_tick : Settings → State → ℤ → Bool → List ℕ → List ℕ → LineTick
 request_tick s st count contact request buffer =
-    cond (is_none request) (line_ticked told.Done 0 (tick_of s st (unasked_of count contact)))
+    cond (is_none request) (line_ticked (Ok tt) 0 (tick_of s st (unasked_of count contact)))
     (line_tick_of s st count contact (received_of request) buffer)
 
 -- the reply buffer after it

@@ -1,9 +1,8 @@
 -- The ticket program, worked by hand: which lines can be read and which can't, the lines of an input, the text of a ticket. Statements;
 -- they are computed in proofs/LogFigures.antt.
-use Rattle.std.specs.Prelude.{ℕ, ◌≡◌, Bool, true, false, List, [], ◌∷◌, ◌++◌, replicate, pos}
+use Rattle.std.specs.Prelude.{ℕ, ◌≡◌, Bool, true, false, List, [], ◌∷◌, ◌++◌, replicate, pos, None, Option}
 use Prim.Native.String.{String}
 use Rattle.types.specs.declared.requests.Request.TheVariants as request
-use Rattle.types.specs.declared.stages.Batch.TheVariants as batch
 use Rattle.types.specs.declared.machine.Ticked.{Ticked}
 use Rattle.types.specs.declared.log.LogLine.{LogLine}
 use Rattle.types.specs.declared.log.Line.{Line}
@@ -52,7 +51,7 @@ abbrev pub input : List ℕ
 input = printed "0 0 --" ++ printed "-30 0 --" ++ printed "100 1 --" ++ ascii "60 0 DC" ++ (10 ∷ 10 ∷ [])
 
 -- the line of this number among the first `all` bytes
-abbrev pub line_in : ℕ → ℕ → ℕ → ℕ → Bool → Bool → LogLine → Line
+abbrev pub line_in : ℕ → ℕ → ℕ → ℕ → Bool → Bool → Option LogLine → Line
 line_in number all from end here whole said =
     record { from = from; end = end; all = all; number = number; here = here; whole = whole; said = said }
 
@@ -112,7 +111,7 @@ pub record Tickets : Type 0 where
   -- tracked, and not the zero, of which a keyed one is a part
   pub left :
       left_text (record { zero = pos 7; tracked = minus 3; tare = pos 5; counter = 2 })
-      (record { total = 12; count = 2; back = batch.Nothing })
+      (record { total = 12; count = 2; back = None })
       ≡ printed "tracked=-3" ++ printed "batches=2" ++ printed "total=12"
   pub refused : refused_text 12 ≡ printed "refused=12"
   -- numbers

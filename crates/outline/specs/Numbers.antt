@@ -1,33 +1,29 @@
 -- Paper numbers: for each case of each answer, the outline's number and values. Where the outline has a word and no number, the number
 -- is the house's, and the comment says so.
-use Rattle.std.specs.Prelude.{ℕ, List, [], ◌∷◌, ℤ, Float}
-use Rattle.types.specs.declared.settings.Opening.{Opening}
-use Rattle.types.specs.declared.settings.Opening.TheVariants as opening
+use Rattle.std.specs.Prelude.{ℕ, List, [], ◌∷◌, ℤ, Float, Option, None, Some, Result, Ok, Err}
+use Rattle.types.specs.declared.daybook.Book.{Book}
+use Rattle.types.specs.declared.settings.Settings.{Settings}
 use Rattle.types.specs.declared.analog.Analog.{Analog}
 use Rattle.types.specs.declared.analog.Analog.TheVariants as analog
-use Rattle.types.specs.declared.daybook.Closed.{Closed}
-use Rattle.types.specs.declared.daybook.Closed.TheVariants as closed
 use Rattle.types.specs.declared.requests.Refusal.{Refusal}
 use Rattle.types.specs.declared.requests.Refusal.TheVariants as refusal
-use Rattle.types.specs.declared.requests.Outcome.{Outcome}
-use Rattle.types.specs.declared.requests.Outcome.TheVariants as outcome
 use Rattle.types.specs.declared.stages.Stage.{Stage}
 use Rattle.types.specs.declared.stages.Stage.TheVariants as stage
 use Rattle.types.specs.declared.stages.Judgement.{Judgement}
 use Rattle.types.specs.declared.stages.Judgement.TheVariants as judgement
 use Rattle.types.specs.declared.stages.SequenceError.{SequenceError}
 use Rattle.types.specs.declared.stages.SequenceError.TheVariants as error
-use Rattle.types.specs.declared.machine.BlockAnswer.{BlockAnswer}
-use Rattle.types.specs.declared.machine.BlockAnswer.TheVariants as block
+use Rattle.types.specs.declared.machine.BlockRefusal.{BlockRefusal}
+use Rattle.types.specs.declared.machine.BlockRefusal.TheVariants as block
 use Rattle.types.specs.declared.lines.LineKind.{LineKind}
 use Rattle.types.specs.declared.lines.LineKind.TheVariants as kind
-use Rattle.types.specs.declared.lines.LineAnswer.{LineAnswer}
-use Rattle.types.specs.declared.lines.LineAnswer.TheVariants as told
+use Rattle.types.specs.declared.lines.LineRefusal.{LineRefusal}
+use Rattle.types.specs.declared.lines.LineRefusal.TheVariants as told
 
 -- settings: 0 for accepted is the house's
-abbrev pub opening_number : Opening → ℕ
-opening_number opening.Refused = 10
-opening_number (opening.Accepted s) = 0
+abbrev pub opening_number : Option Settings → ℕ
+opening_number None = 10
+opening_number (Some s) = 0
 
 -- requests
 abbrev pub refusal_number : Refusal → ℕ
@@ -41,9 +37,9 @@ refusal_number refusal.NothingToTakeBack = 7
 refusal_number refusal.ContactClosed = 8
 refusal_number refusal.LossInWeight = 9
 
-abbrev pub outcome_number : Outcome → ℕ
-outcome_number outcome.Done = 0
-outcome_number (outcome.Refused n) = refusal_number n
+abbrev pub outcome_number : Result (Unit {0}) Refusal → ℕ
+outcome_number (Ok tt) = 0
+outcome_number (Err n) = refusal_number n
 
 -- stages
 abbrev pub stage_number : Stage → ℕ
@@ -81,9 +77,9 @@ judgement_number judgement.Over = 2
 judgement_number judgement.Under = 3
 
 -- blocks
-abbrev pub block_number : BlockAnswer → ℕ
-block_number block.Run = 0
-block_number block.TooLong = 15
+abbrev pub block_number : Result (Unit {0}) BlockRefusal → ℕ
+block_number (Ok tt) = 0
+block_number (Err block.TooLong) = 15
 
 -- a line's second answer: words in the outline, numbers of the house
 abbrev pub kind_number : LineKind → ℕ
@@ -93,13 +89,13 @@ kind_number kind.Empty = 2
 kind_number kind.Text = 3
 
 -- lines
-abbrev pub told_number : LineAnswer → ℕ
-told_number told.Done = 0
-told_number (told.Refused n) = refusal_number n
-told_number told.Malformed = 11
-told_number told.OtherAddress = 12
-told_number told.Unknown = 13
-told_number told.ShortBuffer = 14
+abbrev pub told_number : Result (Unit {0}) LineRefusal → ℕ
+told_number (Ok tt) = 0
+told_number (Err (told.Request n)) = refusal_number n
+told_number (Err told.Malformed) = 11
+told_number (Err told.OtherAddress) = 12
+told_number (Err told.Unknown) = 13
+told_number (Err told.ShortBuffer) = 14
 
 -- analog value: words in the outline, numbers of the house, those of the settings' board
 abbrev pub analog_number : Analog → ℕ
@@ -114,6 +110,6 @@ analog_values (analog.Current mA) = mA ∷ []
 analog_values (analog.Voltage volts) = volts ∷ []
 
 -- a closed day: opening, refilled, used, unbooked, closing
-abbrev pub closed_values : Closed → List ℤ
-closed_values closed.Nothing = []
-closed_values (closed.Day b) = b.opening ∷ b.refilled ∷ b.used ∷ b.unbooked ∷ b.last ∷ []
+abbrev pub closed_values : Option Book → List ℤ
+closed_values None = []
+closed_values (Some b) = b.opening ∷ b.refilled ∷ b.used ∷ b.unbooked ∷ b.last ∷ []

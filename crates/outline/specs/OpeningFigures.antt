@@ -1,16 +1,13 @@
 -- Worked by hand from the outline: what an opening answers, and what it keeps of the settings, field by field. Statements; they are
 -- computed in proofs/OpeningFigures.antt.
-use Rattle.std.specs.Prelude.{ℕ, ◌≡◌, false, List, [], ◌∷◌, set, ℤ, pos}
+use Rattle.std.specs.Prelude.{ℕ, ◌≡◌, false, List, [], ◌∷◌, set, ℤ, pos, None, Some}
 use Rattle.types.specs.declared.settings.Settings.{Settings}
-use Rattle.types.specs.declared.settings.Opening.TheVariants as opening
 use Rattle.types.specs.declared.settings.Mode.TheVariants as mode
 use Rattle.types.specs.declared.analog.Board.TheVariants as board
 use Rattle.types.specs.declared.weight.Display.TheVariants as display
 use Rattle.types.specs.declared.stages.Stage.TheVariants as stage
 use Rattle.types.specs.declared.stages.SequenceError.TheVariants as error
 use Rattle.types.specs.declared.stages.Judgement.TheVariants as judgement
-use Rattle.types.specs.declared.stages.Write.TheVariants as write
-use Rattle.types.specs.declared.stages.Batch.TheVariants as batch
 use Rattle.types.specs.declared.machine.State.{State}
 use Rattle.outline.specs.Analog.{f64}
 use Rattle.outline.specs.Settings.{open_of}
@@ -86,9 +83,9 @@ written_state = record {
   weighing = record { zero = pos 0; tracked = pos 0; tare = pos 0; counter = 0 };
   panel = record { display = display.Gross };
   setpoints = record { target = 0; fall = 0; preliminary = 0; optional = 0; over = 0; under = 0; near = 0 };
-  waiting = record { write = write.Nothing };
+  waiting = None;
   sequence = record { stage = stage.Idle; clock = 0; error = error.None; judgement = judgement.None };
-  totals = record { total = 0; count = 0; back = batch.Nothing };
+  totals = record { total = 0; count = 0; back = None };
 }
 
 -- the number that an opening answers
@@ -104,8 +101,8 @@ ends_open low high = opens (set (set list_a 20 low) 21 high)
 
 pub record Opened : Type 0 where
   -- every value is kept as what it is given for
-  pub settings_a_lem : open_of (given_of list_a) ≡ opening.Accepted written_a
-  pub settings_b : open_of (given_of list_b) ≡ opening.Accepted written_b
+  pub settings_a_lem : open_of (given_of list_a) ≡ Some written_a
+  pub settings_b : open_of (given_of list_b) ≡ Some written_b
   pub state : opened_of (open_of (given_of list_a)) ≡ written_state ∷ []
   -- "Any value outside its range gives answer 10 and no state."
   pub accepted : opens list_a ≡ 0

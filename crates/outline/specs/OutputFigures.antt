@@ -1,12 +1,10 @@
 -- Worked by hand from the outline: all outputs of the first tick, near zero and full at their limits, the analog value of what is
 -- displayed, and the longest block. Statements; they are computed in proofs/OutputFigures.antt.
-use Rattle.std.specs.Prelude.{ℕ, ◌≡◌, Bool, true, false, List, [], ◌∷◌, ◌++◌, replicate, set, ℤ, pos, Float}
+use Rattle.std.specs.Prelude.{ℕ, ◌≡◌, Bool, true, false, List, [], ◌∷◌, ◌++◌, replicate, set, ℤ, pos, Float, None, Ok}
 use Rattle.types.specs.declared.settings.Settings.{Settings}
 use Rattle.types.specs.declared.analog.Analog.{Analog}
 use Rattle.types.specs.declared.analog.Analog.TheVariants as analog
 use Rattle.types.specs.declared.requests.Request.TheVariants as request
-use Rattle.types.specs.declared.requests.Outcome.TheVariants as outcome
-use Rattle.types.specs.declared.daybook.Closed.TheVariants as closed
 use Rattle.types.specs.declared.stages.Stage.TheVariants as stage
 use Rattle.types.specs.declared.stages.SequenceError.TheVariants as error
 use Rattle.types.specs.declared.stages.Judgement.TheVariants as judgement
@@ -27,7 +25,7 @@ first count = told settings_a open_state count request.Nothing
 
 abbrev pub first_answer : ℤ → Bool → Answer
 first_answer gross near = record {
-  outcome = outcome.Done;
+  outcome = Ok tt;
   reading = record { good = true; overload = false; stable = false; gross = gross; net = gross };
   stage = stage.Idle;
   gates = record { large = false; medium = false; small = false; discharge = false };
@@ -36,7 +34,7 @@ first_answer gross near = record {
   near = near;
   full = false;
   analog = analog.None;
-  closed = closed.Nothing;
+  closed = None;
 }
 
 -- ---- near zero and full: near zero 5, OP or full 50

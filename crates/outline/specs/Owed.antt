@@ -1,15 +1,11 @@
 -- What the definitions owe, as statements: laws that a reader would ask of them. They are proved in proofs/, and `paper_holds` has
 -- them as its `ensures`. Those of the analog value stand in AnalogOwed.antt.
-use Rattle.std.specs.Prelude.{ℕ, zero, suc, ◌<◌, ◌≤◌, max, ◌≡◌, true, false, cond, ◌⊎◌, [], ◌∷◌, ltb, ℤ, nat_abs}
+use Rattle.std.specs.Prelude.{ℕ, zero, suc, ◌<◌, ◌≤◌, max, ◌≡◌, true, false, cond, ◌⊎◌, [], ◌∷◌, ltb, ℤ, nat_abs, Option, None, Some}
 use Rattle.types.specs.declared.settings.Given.{Given}
 use Rattle.types.specs.declared.settings.Mode.{Mode}
 use Rattle.types.specs.declared.settings.Mode.TheVariants as mode
 use Rattle.types.specs.declared.settings.Settings.{Settings}
-use Rattle.types.specs.declared.settings.Opening.TheVariants as opening
-use Rattle.types.specs.declared.weight.Raw.TheVariants.{Bad, Tenths}
 use Rattle.types.specs.declared.stages.Setpoints.{Setpoints}
-use Rattle.types.specs.declared.stages.Timing.{Timing}
-use Rattle.types.specs.declared.stages.Timing.TheVariants as timing
 use Rattle.outline.specs.Limits.{raw_limit, setpoint_limit}
 use Rattle.outline.specs.Settings.{open_of}
 use Rattle.outline.specs.Weight.{good_count, tenths_of, raw_of}
@@ -20,7 +16,7 @@ use Rattle.outline.specs.Stages.{wait_of}
 
 -- settings that some opening accepted
 abbrev pub Accepted : Settings → Type 0
-Accepted s = (g : Given) × (open_of g ≡ opening.Accepted s)
+Accepted s = (g : Given) × (open_of g ≡ Some s)
 
 -- ---- "Any value outside its range gives answer 10 and no state.": a state is given exactly where the answer is 0, and it is the opening
 -- state
@@ -34,8 +30,8 @@ OpeningLaw = (g : Given) → Opened g
 
 -- ---- |raw| is at most 4,000,000: the guard on raw is never met, so that a tick is bad for its count alone
 pub record RawOf (s : Settings) (count : ℤ) : Type 0 where
-  pub bad : good_count count ≡ false → raw_of s.calibration count ≡ Bad
-  pub good : good_count count ≡ true → raw_of s.calibration count ≡ Tenths (tenths_of s.calibration count)
+  pub bad : good_count count ≡ false → raw_of s.calibration count ≡ None
+  pub good : good_count count ≡ true → raw_of s.calibration count ≡ Some (tenths_of s.calibration count)
   pub small : good_count count ≡ true → nat_abs (tenths_of s.calibration count) ≤ raw_limit
 
 abbrev pub RawLaw : Type 0
@@ -62,13 +58,13 @@ abbrev pub SetpointLaw : Type 0
 SetpointLaw = (m : Mode) (p : Setpoints) → (setpoints_fit m p ≡ true → Kept m p) × (Kept m p → setpoints_fit m p ≡ true)
 
 -- ---- "A timed stage of n lasts max(n, 1) ticks": the entering tick is its first, and j ticks later it still stands where j is below that
-abbrev pub one_more : ℕ → Timing → Timing
-one_more n timing.Over = timing.Over
-one_more n (timing.Still t) = wait_of n t
+abbrev pub one_more : ℕ → Option ℕ → Option ℕ
+one_more n None = None
+one_more n (Some t) = wait_of n t
 
-abbrev pub after : ℕ → ℕ → Timing
-after n zero = timing.Still 0
+abbrev pub after : ℕ → ℕ → Option ℕ
+after n zero = Some 0
 after n (suc j) = one_more n (after n j)
 
 abbrev pub TimedLaw : Type 0
-TimedLaw = (n j : ℕ) → after n j ≡ cond (ltb j (max n 1)) (timing.Still j) timing.Over
+TimedLaw = (n j : ℕ) → after n j ≡ cond (ltb j (max n 1)) (Some j) None

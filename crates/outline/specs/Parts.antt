@@ -1,11 +1,10 @@
 -- The state with one part made anew, and one of two states picked part by part. Nothing of the outline stands here.
-use Rattle.std.specs.Prelude.{Bool, cond}
+use Rattle.std.specs.Prelude.{Bool, cond, Option}
 use Rattle.types.specs.declared.weight.Stability.{Stability}
 use Rattle.types.specs.declared.weight.Weighing.{Weighing}
 use Rattle.types.specs.declared.weight.Display.{Display}
 use Rattle.types.specs.declared.daybook.Book.{Book}
 use Rattle.types.specs.declared.stages.Setpoints.{Setpoints}
-use Rattle.types.specs.declared.stages.Waiting.{Waiting}
 use Rattle.types.specs.declared.stages.Sequence.{Sequence}
 use Rattle.types.specs.declared.stages.Totals.{Totals}
 use Rattle.types.specs.declared.machine.State.{State}
@@ -70,7 +69,7 @@ with_setpoints st x = record {
   totals = st.totals;
 }
 
-abbrev pub with_waiting : State → Waiting → State
+abbrev pub with_waiting : State → Option Setpoints → State
 with_waiting st x = record {
   book = st.book;
   stability = st.stability;

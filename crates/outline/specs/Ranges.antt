@@ -1,5 +1,5 @@
 -- The range of every field of the state, under settings s: what no run leaves. A field that has no use is 0.
-use Rattle.std.specs.Prelude.{◌+◌, ◌*◌, ◌<◌, ◌≤◌, max, ◌≡◌, Bool, true, false, not, ◌&&◌, ◌||◌, eqb, pos, nat_abs, ◌+ℤ◌, ◌-ℤ◌, ◌*ℤ◌}
+use Rattle.std.specs.Prelude.{◌+◌, ◌*◌, ◌<◌, ◌≤◌, max, ◌≡◌, Bool, true, false, not, ◌&&◌, ◌||◌, eqb, pos, nat_abs, ◌+ℤ◌, ◌-ℤ◌, ◌*ℤ◌, Option, None, Some, ℤ, ℕ}
 use Rattle.std.specs.Int.Signed.{le_z}
 use Rattle.types.specs.declared.settings.Range.{Range}
 use Rattle.types.specs.declared.settings.Tracking.{Tracking}
@@ -21,10 +21,6 @@ use Rattle.types.specs.declared.stages.Judgement.TheVariants as judgement
 use Rattle.types.specs.declared.stages.SequenceError.{SequenceError}
 use Rattle.types.specs.declared.stages.SequenceError.TheVariants as error
 use Rattle.types.specs.declared.stages.Sequence.{Sequence}
-use Rattle.types.specs.declared.stages.Write.{Write}
-use Rattle.types.specs.declared.stages.Write.TheVariants as write
-use Rattle.types.specs.declared.stages.Batch.{Batch}
-use Rattle.types.specs.declared.stages.Batch.TheVariants as batch
 use Rattle.types.specs.declared.stages.Totals.{Totals}
 use Rattle.types.specs.declared.machine.State.{State}
 use Rattle.outline.specs.Limits.{raw_limit, rise_limit, day_ticks, total_limit, batch_limit, overload_margin}
@@ -109,9 +105,9 @@ pub record SequenceRange (b : Batching) (q : Sequence) : Type 0 where
   pub normal_error : of_discharge q.error ≡ true → b.mode ≡ mode.Normal
 
 -- what can be taken back was booked: undo's differences never stop at 0
-abbrev pub BackRange : Totals → Batch → Type 0
-BackRange t batch.Nothing = Unit {0}
-BackRange t (batch.Weight v) = (v ≤ t.total) × (1 ≤ t.count)
+abbrev pub BackRange : Totals → Option ℕ → Type 0
+BackRange t None = Unit {0}
+BackRange t (Some v) = (v ≤ t.total) × (1 ≤ t.count)
 
 pub record TotalsRange (t : Totals) : Type 0 where
   pub total : t.total ≤ total_limit
@@ -119,9 +115,9 @@ pub record TotalsRange (t : Totals) : Type 0 where
   pub back : BackRange t t.back
 
 -- A5: what waits was accepted, so it keeps the rules that refusal 6 tests
-abbrev pub write_fits : Mode → Write → Bool
-write_fits m write.Nothing = true
-write_fits m (write.Points p) = setpoints_fit m p
+abbrev pub write_fits : Mode → Option Setpoints → Bool
+write_fits m None = true
+write_fits m (Some p) = setpoints_fit m p
 
 -- the flow stages that a batch with these setpoints has: none where F is 0, 04 and 05 where there is a large flow, 06 and 07 where P is
 -- not 0
@@ -160,7 +156,7 @@ pub record StateRange (s : Settings) (st : State) : Type 0 where
   pub stability : StabilityRange s.steadiness st.stability
   pub weighing : WeighingRange s.range s.tracking st.weighing
   pub setpoints : setpoints_fit s.batching.mode st.setpoints ≡ true
-  pub waiting : write_fits s.batching.mode st.waiting.write ≡ true
+  pub waiting : write_fits s.batching.mode st.waiting ≡ true
   pub sequence : SequenceRange s.batching st.sequence
   pub totals : TotalsRange st.totals
   pub together : TogetherRange s st

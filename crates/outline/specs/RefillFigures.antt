@@ -1,8 +1,7 @@
 -- Worked by hand from request A2 and the outline's day book: what the book has after each tick. Under settings A raw is the count.
 -- Statements; they are computed in proofs/RefillFigures.antt.
-use Rattle.std.specs.Prelude.{ℕ, ◌≡◌, Bool, true, false, List, [], ◌∷◌, ℤ, pos}
-use Rattle.types.specs.declared.daybook.Closed.{Closed}
-use Rattle.types.specs.declared.daybook.Closed.TheVariants as closed
+use Rattle.std.specs.Prelude.{ℕ, ◌≡◌, Bool, true, false, List, [], ◌∷◌, ℤ, pos, Option, None, Some}
+use Rattle.types.specs.declared.daybook.Book.{Book}
 use Rattle.types.specs.declared.requests.Request.TheVariants as request
 use Rattle.types.specs.declared.machine.State.{State}
 use Rattle.types.specs.declared.machine.Input.{Input}
@@ -35,16 +34,16 @@ abbrev pub row : ℤ → ℤ → ℤ → ℤ → ℤ → List ℤ
 row opening refilled used unbooked last = opening ∷ refilled ∷ used ∷ unbooked ∷ last ∷ []
 
 -- the day that a tick closed, before what it leaves
-abbrev pub ended : Closed → List (List ℤ) → List (List ℤ)
-ended closed.Nothing rows = rows
-ended (closed.Day b) rows = closed_values (closed.Day b) ∷ rows
+abbrev pub ended : Option Book → List (List ℤ) → List (List ℤ)
+ended None rows = rows
+ended (Some b) rows = closed_values (Some b) ∷ rows
 
 -- after each tick what stands in the book, and before it the day that the tick closed
 abbrev pub rows_of : State → List Input → List (List ℤ)
 rows_of st [] = []
 rows_of st (i ∷ l) =
     let tick = tick_of settings_a st i in
-    ended tick.answer.closed (closed_values (closed.Day tick.state.book) ∷ rows_of tick.state l)
+    ended tick.answer.closed (closed_values (Some tick.state.book) ∷ rows_of tick.state l)
 
 -- after each tick the ticks of its day
 abbrev pub ticks_in : State → List Input → List ℕ

@@ -1,27 +1,28 @@
 -- The outline's section "Serial lines", second part: the bytes of each reply, the caller's reply buffer, and the tick with a line.
-use Rattle.std.specs.Prelude.{ℕ, zero, suc, ◌/◌, ◌%◌, List, [], ◌∷◌, ◌++◌, Bool, true, false, cond, not, ◌&&◌, length, drop, replicate, leb, ℤ, pos, nat_abs}
+use Rattle.std.specs.Prelude.{ℕ, zero, suc, ◌/◌, ◌%◌, List, [], ◌∷◌, ◌++◌, Bool, true, false, cond, not, ◌&&◌, length, drop, replicate, leb, ℤ, pos, nat_abs, Result, Ok, Err}
 use Rattle.std.specs.Int.Signed.{lt_z}
+use Rattle.types.specs.declared.requests.Refusal.{Refusal}
 use Rattle.types.specs.declared.settings.Settings.{Settings}
 use Rattle.types.specs.declared.weight.Display.{Display}
 use Rattle.types.specs.declared.weight.Display.TheVariants as display
 use Rattle.types.specs.declared.stages.Setpoints.{Setpoints}
 use Rattle.types.specs.declared.requests.Request.{Request}
 use Rattle.types.specs.declared.requests.Request.TheVariants as request
-use Rattle.types.specs.declared.requests.Outcome.{Outcome}
-use Rattle.types.specs.declared.requests.Outcome.TheVariants as outcome
 use Rattle.types.specs.declared.machine.State.{State}
 use Rattle.types.specs.declared.machine.Input.{Input}
 use Rattle.types.specs.declared.machine.Reading.{Reading}
 use Rattle.types.specs.declared.machine.Ticked.{Ticked}
 use Rattle.types.specs.declared.lines.Word.{Word}
 use Rattle.types.specs.declared.lines.Word.TheVariants as word
-use Rattle.types.specs.declared.lines.Command.{Command}
-use Rattle.types.specs.declared.lines.Command.TheVariants as command
+use Rattle.types.specs.declared.lines.Order.{Order}
+use Rattle.types.specs.declared.lines.LineFault.{LineFault}
+use Rattle.types.specs.declared.lines.Order.TheVariants as order
+use Rattle.types.specs.declared.lines.LineFault.TheVariants as fault
 use Rattle.types.specs.declared.lines.Shown.{Shown}
 use Rattle.types.specs.declared.lines.Reply.{Reply}
 use Rattle.types.specs.declared.lines.Reply.TheVariants as reply
-use Rattle.types.specs.declared.lines.LineAnswer.{LineAnswer}
-use Rattle.types.specs.declared.lines.LineAnswer.TheVariants as told
+use Rattle.types.specs.declared.lines.LineRefusal.{LineRefusal}
+use Rattle.types.specs.declared.lines.LineRefusal.TheVariants as told
 use Rattle.types.specs.declared.lines.LineTick.{LineTick}
 use Rattle.outline.specs.Setpoints.{latest_of}
 use Rattle.outline.specs.Tick.{settled_of, served_of, reading_of, unasked_of, tick_of}
@@ -110,14 +111,14 @@ word_request word.DayClose = request.DayClose
 word_request word.Discharge = request.Discharge
 
 -- "After any of 11 to 14 the request is not done and the tick runs as if it had none."
-unfoldable pub request_of : Command → Request
-request_of (command.Do w) = word_request w
-request_of (command.Set p) = request.Set p
-request_of command.NoLine = request.Nothing
-request_of command.LongLine = request.Nothing
-request_of command.OtherAddress = request.Nothing
-request_of command.Malformed = request.Nothing
-request_of command.Unknown = request.Nothing
+unfoldable pub request_of : Result Order LineFault → Request
+request_of (Ok (order.Do w)) = word_request w
+request_of (Ok (order.Set p)) = request.Set p
+request_of (Err fault.NoLine) = request.Nothing
+request_of (Err fault.LongLine) = request.Nothing
+request_of (Err fault.OtherAddress) = request.Nothing
+request_of (Err fault.Malformed) = request.Nothing
+request_of (Err fault.Unknown) = request.Nothing
 
 abbrev pub shows_net : Display → Bool
 shows_net display.Gross = false
@@ -142,12 +143,12 @@ shown_of d x = record {
 }
 
 -- "an accepted request its two letters; a refused one NG and two digits"
-abbrev pub request_reply : ℕ → Outcome → Reply
-request_reply k outcome.Done = reply.Letters k
-request_reply k (outcome.Refused n) = reply.Refused (refusal_number n)
+abbrev pub request_reply : ℕ → Result (Unit {0}) Refusal → Reply
+request_reply k (Ok tt) = reply.Letters k
+request_reply k (Err n) = reply.Refused (refusal_number n)
 
 -- "a read shows the state as step 4 leaves it", and the weights that serve its tick
-abbrev pub word_reply : Word → State → Reading → Outcome → Reply
+abbrev pub word_reply : Word → State → Reading → Result (Unit {0}) Refusal → Reply
 word_reply word.ReadWeight st x o = reply.Weight (shown_of st.panel.display x)
 word_reply word.ReadTotal st x o = reply.Total st.totals.total st.totals.count
 -- A5: "RS reads the waiting set if there is one."
@@ -165,28 +166,28 @@ word_reply word.DayClose st x o = request_reply (letters_for word.DayClose) o
 word_reply word.Discharge st x o = request_reply (letters_for word.Discharge) o
 
 -- "A 12, no line and a line over 64 bytes have an empty reply; another 11, and 13, reply with NG and the number."
-unfoldable pub reply_due : Command → State → Reading → Outcome → Reply
-reply_due (command.Do w) st x o = word_reply w st x o
-reply_due (command.Set p) st x o = request_reply set_letters o
-reply_due command.NoLine st x o = reply.Silent
-reply_due command.LongLine st x o = reply.Silent
-reply_due command.OtherAddress st x o = reply.Silent
-reply_due command.Malformed st x o = reply.Refused (told_number told.Malformed)
-reply_due command.Unknown st x o = reply.Refused (told_number told.Unknown)
+unfoldable pub reply_due : Result Order LineFault → State → Reading → Result (Unit {0}) Refusal → Reply
+reply_due (Ok (order.Do w)) st x o = word_reply w st x o
+reply_due (Ok (order.Set p)) st x o = request_reply set_letters o
+reply_due (Err fault.NoLine) st x o = reply.Silent
+reply_due (Err fault.LongLine) st x o = reply.Silent
+reply_due (Err fault.OtherAddress) st x o = reply.Silent
+reply_due (Err fault.Malformed) st x o = reply.Refused (told_number (Err told.Malformed))
+reply_due (Err fault.Unknown) st x o = reply.Refused (told_number (Err told.Unknown))
 
 -- what the line is answered, where the reply due fits
-abbrev pub outcome_told : Outcome → LineAnswer
-outcome_told outcome.Done = told.Done
-outcome_told (outcome.Refused n) = told.Refused n
+abbrev pub outcome_told : Result (Unit {0}) Refusal → Result (Unit {0}) LineRefusal
+outcome_told (Ok tt) = Ok tt
+outcome_told (Err n) = Err (told.Request n)
 
-unfoldable pub told_of : Command → Outcome → LineAnswer
-told_of (command.Do w) o = outcome_told o
-told_of (command.Set p) o = outcome_told o
-told_of command.NoLine o = told.Malformed
-told_of command.LongLine o = told.Malformed
-told_of command.OtherAddress o = told.OtherAddress
-told_of command.Malformed o = told.Malformed
-told_of command.Unknown o = told.Unknown
+unfoldable pub told_of : Result Order LineFault → Result (Unit {0}) Refusal → Result (Unit {0}) LineRefusal
+told_of (Ok (order.Do w)) o = outcome_told o
+told_of (Ok (order.Set p)) o = outcome_told o
+told_of (Err fault.NoLine) o = Err told.Malformed
+told_of (Err fault.LongLine) o = Err told.Malformed
+told_of (Err fault.OtherAddress) o = Err told.OtherAddress
+told_of (Err fault.Malformed) o = Err told.Malformed
+told_of (Err fault.Unknown) o = Err told.Unknown
 
 -- ---- the tick with a line
 -- the tick that the line asks for
@@ -200,7 +201,7 @@ due_text s st count contact receive =
     let a = settled_of s st i in
     reply_text s.address (reply_due (command_of receive s.address) a.state (reading_of (served_of s st i)) a.outcome)
 
-abbrev pub line_ticked : LineAnswer → ℕ → Ticked → LineTick
+abbrev pub line_ticked : Result (Unit {0}) LineRefusal → ℕ → Ticked → LineTick
 line_ticked t n tick = record { told = t; length = n; answer = tick.answer; state = tick.state }
 
 -- "14 reply buffer shorter than the reply due .. It replaces a number whose NG does not fit."
@@ -210,7 +211,7 @@ line_tick_of s st count contact receive buffer =
     let text = due_text s st count contact receive in
     cond (leb (length text) (length buffer))
     (line_ticked (told_of (command_of receive s.address) (settled_of s st i).outcome) (length text) (tick_of s st i))
-    (line_ticked told.ShortBuffer 0 (tick_of s st (unasked_of count contact)))
+    (line_ticked (Err told.ShortBuffer) 0 (tick_of s st (unasked_of count contact)))
 
 -- a text at a buffer's start: "Bytes past the reply stay." Where it does not fit, "every byte of it unchanged".
 unfoldable pub written_of : List ℕ → List ℕ → List ℕ

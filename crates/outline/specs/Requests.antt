@@ -1,18 +1,15 @@
 -- The outline's section "Requests and their answers": step 4 of a tick.
-use Rattle.std.specs.Prelude.{Bool, true, false, cond, not, ◌&&◌, List, [], ◌∷◌, pos}
+use Rattle.std.specs.Prelude.{Bool, true, false, cond, not, ◌&&◌, List, [], ◌∷◌, pos, None, Some, Result, Ok, Err}
 use Rattle.types.specs.declared.settings.Range.{Range}
 use Rattle.types.specs.declared.settings.Mode.{Mode}
 use Rattle.types.specs.declared.settings.Mode.TheVariants as mode
 use Rattle.types.specs.declared.settings.Settings.{Settings}
 use Rattle.types.specs.declared.weight.Weights.{Weights}
 use Rattle.types.specs.declared.weight.Display.TheVariants as display
-use Rattle.types.specs.declared.daybook.Closed.TheVariants as closed
 use Rattle.types.specs.declared.requests.Request.{Request}
 use Rattle.types.specs.declared.requests.Request.TheVariants as request
 use Rattle.types.specs.declared.requests.Refusal.{Refusal}
 use Rattle.types.specs.declared.requests.Refusal.TheVariants as refusal
-use Rattle.types.specs.declared.requests.Outcome.{Outcome}
-use Rattle.types.specs.declared.requests.Outcome.TheVariants as outcome
 use Rattle.types.specs.declared.stages.Setpoints.{Setpoints}
 use Rattle.types.specs.declared.stages.Sequence.{Sequence}
 use Rattle.types.specs.declared.stages.Totals.{Totals}
@@ -94,38 +91,38 @@ rows_to range mode q t x request.DayClose = row1 x ∷ []
 rows_to range mode q t x request.Discharge = row1 x ∷ row2 x ∷ row3 q ∷ row9 mode ∷ []
 
 -- "0 is accepted or nothing asked. Otherwise the first that applies, in numerical order.": the first of those rows
-abbrev pub first_of : List Row → Outcome
-first_of [] = outcome.Done
-first_of (r ∷ rs) = cond r.applies (outcome.Refused r.number) (first_of rs)
+abbrev pub first_of : List Row → Result (Unit {0}) Refusal
+first_of [] = Ok tt
+first_of (r ∷ rs) = cond r.applies (Err r.number) (first_of rs)
 
-unfoldable pub ruling_of : Settings → State → Weights → Request → Outcome
+unfoldable pub ruling_of : Settings → State → Weights → Request → Result (Unit {0}) Refusal
 ruling_of s st x r = first_of (rows_to s.range s.batching.mode st.sequence st.totals x r)
 
-abbrev pub done_of : Outcome → Bool
-done_of outcome.Done = true
-done_of (outcome.Refused n) = false
+abbrev pub done_of : Result (Unit {0}) Refusal → Bool
+done_of (Ok tt) = true
+done_of (Err n) = false
 
 -- ---- what an accepted request does
 -- to the state, and nothing else
 abbrev pub plainly : State → Settled
-plainly st = record { outcome = outcome.Done; state = st; held = false; keyed = false; closed = closed.Nothing }
+plainly st = record { outcome = Ok tt; state = st; held = false; keyed = false; closed = None }
 
 -- "Step 6 is passed over in a tick with an accepted start, or a stop."; A1: "BD, like BB, .. passes step 6 over"
 abbrev pub holding : State → Settled
-holding st = record { outcome = outcome.Done; state = st; held = true; keyed = false; closed = closed.Nothing }
+holding st = record { outcome = Ok tt; state = st; held = true; keyed = false; closed = None }
 
 -- a zero is keyed, which tracking asks for
 abbrev pub keying : State → Settled
-keying st = record { outcome = outcome.Done; state = st; held = false; keyed = true; closed = closed.Nothing }
+keying st = record { outcome = Ok tt; state = st; held = false; keyed = true; closed = None }
 
 -- the day ends as step 2 left it, and the next begins
 abbrev pub closing : State → Settled
 closing st = record {
-  outcome = outcome.Done;
+  outcome = Ok tt;
   state = with_book st (closed_of st.book);
   held = false;
   keyed = false;
-  closed = closed.Day st.book;
+  closed = Some st.book;
 }
 
 -- A5: "It comes into use at the tick the stage returns to 00". `returned`: the stage returns to 00 in this step; then the waiting set, if
@@ -161,19 +158,19 @@ granted_of st x request.DayClose = closing st
 granted_of st x request.Discharge = holding (with_sequence st (discharge_sequence st.sequence))
 
 -- "A refused request changes nothing; the rest of the tick goes on."
-abbrev pub unless_refused : Outcome → State → Settled → Settled
+abbrev pub unless_refused : Result (Unit {0}) Refusal → State → Settled → Settled
 unless_refused o st granted = record {
   outcome = o;
   state = pick_state (done_of o) granted.state st;
   held = done_of o && granted.held;
   keyed = done_of o && granted.keyed;
-  closed = cond (done_of o) granted.closed closed.Nothing;
+  closed = cond (done_of o) granted.closed None;
 }
 
 -- the request that is done: none where it is refused
-abbrev pub grant_of : Outcome → Request → Request
-grant_of outcome.Done r = r
-grant_of (outcome.Refused n) r = request.Nothing
+abbrev pub grant_of : Result (Unit {0}) Refusal → Request → Request
+grant_of (Ok tt) r = r
+grant_of (Err n) r = request.Nothing
 
 -- step 4
 unfoldable pub decided_of : Settings → State → Weights → Request → Settled

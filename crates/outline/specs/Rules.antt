@@ -1,10 +1,9 @@
 -- Worked by hand from the outline, rule by rule: a figure for each rule that the outline's own figures leave unseen. Statements; they
 -- are computed in proofs/Rules.antt.
-use Rattle.std.specs.Prelude.{ℕ, zero, suc, ◌≡◌, Bool, true, false, replicate, set, ℤ, pos}
+use Rattle.std.specs.Prelude.{ℕ, zero, suc, ◌≡◌, Bool, true, false, replicate, set, ℤ, pos, None, Some}
 use mathlib.Core.List.{List, [], ◌∷◌, ◌++◌, foldl}
 use Rattle.types.specs.declared.settings.Settings.{Settings}
 use Rattle.types.specs.declared.analog.Analog.TheVariants as analog
-use Rattle.types.specs.declared.weight.Raw.TheVariants.{Bad, Tenths}
 use Rattle.types.specs.declared.daybook.Book.{Book}
 use Rattle.types.specs.declared.requests.Request.{Request}
 use Rattle.types.specs.declared.requests.Request.TheVariants as request
@@ -40,10 +39,10 @@ tare_at count =
 
 pub record Weighed : Type 0 where
   -- a half of a tenth on either side of Z goes away from zero
-  pub raw_up : raw_of settings_half.calibration (minus 999) ≡ Tenths (pos 1)
-  pub raw_down : raw_of settings_half.calibration (minus 1001) ≡ Tenths (minus 1)
-  pub raw_at_z : raw_of settings_half.calibration (minus 1000) ≡ Tenths (pos 0)
-  pub raw_bad : raw_of settings_half.calibration (minus 2000001) ≡ Bad
+  pub raw_up : raw_of settings_half.calibration (minus 999) ≡ Some (pos 1)
+  pub raw_down : raw_of settings_half.calibration (minus 1001) ≡ Some (minus 1)
+  pub raw_at_z : raw_of settings_half.calibration (minus 1000) ≡ Some (pos 0)
+  pub raw_bad : raw_of settings_half.calibration (minus 2000001) ≡ None
   -- a bad tick answers 0 and 0, no overload, no analog value
   pub bad_gross : (told settings_a tared (pos 2000001) request.Nothing).reading.gross ≡ pos 0
   pub bad_net : (told settings_a tared (pos 2000001) request.Nothing).reading.net ≡ pos 0
@@ -198,11 +197,11 @@ late_book n = record {
 }
 
 pub record Booked : Type 0 where
-  pub first : (book_of open_book (Tenths (pos 70)) false).opening ≡ pos 70
-  pub last_booked : (book_of (late_book 8639999) (Tenths (pos 90)) false).used ≡ pos 10
-  pub not_booked : (book_of (late_book 8640000) (Tenths (pos 90)) false).used ≡ pos 0
-  pub unbooked : (book_of (late_book 8640000) (Tenths (pos 90)) true).unbooked ≡ pos 10
-  pub bad_counts : (book_of (late_book 8639999) Bad false).ticks ≡ day_ticks
+  pub first : (book_of open_book (Some (pos 70)) false).opening ≡ pos 70
+  pub last_booked : (book_of (late_book 8639999) (Some (pos 90)) false).used ≡ pos 10
+  pub not_booked : (book_of (late_book 8640000) (Some (pos 90)) false).used ≡ pos 0
+  pub unbooked : (book_of (late_book 8640000) (Some (pos 90)) true).unbooked ≡ pos 10
+  pub bad_counts : (book_of (late_book 8639999) None false).ticks ≡ day_ticks
   pub next_day : closed_of (late_book 5)
       ≡ record { begun = true; contact = false; opening = pos 100; last = pos 100; refilled = pos 0; used = pos 0; unbooked = pos 0; ticks = 0 }
   -- near zero of 0: on at 0, off above, off in a bad tick

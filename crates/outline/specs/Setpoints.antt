@@ -1,12 +1,9 @@
 -- The outline's section "Setpoints", and of request A5 the waiting set.
-use Rattle.std.specs.Prelude.{Bool, true, false, ◌&&◌, ◌||◌, leb, ltb, eqb, ℤ, pos}
+use Rattle.std.specs.Prelude.{Bool, true, false, ◌&&◌, ◌||◌, leb, ltb, eqb, ℤ, pos, Option, None, Some}
 use Rattle.std.specs.Int.Signed.{le_z, lt_z}
 use Rattle.types.specs.declared.settings.Mode.{Mode}
 use Rattle.types.specs.declared.settings.Mode.TheVariants as mode
 use Rattle.types.specs.declared.stages.Setpoints.{Setpoints}
-use Rattle.types.specs.declared.stages.Write.{Write}
-use Rattle.types.specs.declared.stages.Write.TheVariants as write
-use Rattle.types.specs.declared.stages.Waiting.{Waiting}
 use Rattle.types.specs.declared.weight.Weights.{Weights}
 use Rattle.outline.specs.Limits.{setpoint_limit}
 use Rattle.outline.specs.Weight.{fit_of}
@@ -41,21 +38,21 @@ setpoints_fit m p = seven_fit p && fall_fits p && preliminary_fits p && optional
 
 -- ---- A5: "A write in any stage but 00 goes to a waiting set beside the one in use"
 -- no set waits: so it is at opening, and whenever the stage is 00
-abbrev pub none_waiting : Waiting
-none_waiting = record { write = write.Nothing }
+abbrev pub none_waiting : Option Setpoints
+none_waiting = None
 
 -- "a second write replaces the first": the waiting set is the one written, whatever waited before
-abbrev pub waiting_for : Setpoints → Waiting
-waiting_for p = record { write = write.Points p }
+abbrev pub waiting_for : Setpoints → Option Setpoints
+waiting_for p = Some p
 
 -- the setpoints that were written, or p where none were
-abbrev pub written_else : Write → Setpoints → Setpoints
-written_else write.Nothing p = p
-written_else (write.Points n) p = n
+abbrev pub written_else : Option Setpoints → Setpoints → Setpoints
+written_else None p = p
+written_else (Some n) p = n
 
 -- "the waiting set if there is one", else that in use: what RS reads, and what is in use when the stage is 00 again
-abbrev pub latest_of : Setpoints → Waiting → Setpoints
-latest_of p w = written_else w.write p
+abbrev pub latest_of : Setpoints → Option Setpoints → Setpoints
+latest_of p w = written_else w p
 
 -- "There is no large flow if OP is 0 or in mode 2 (004: full replaces OP)."
 abbrev pub no_large_flow : Mode → Setpoints → Bool

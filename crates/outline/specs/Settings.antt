@@ -1,14 +1,12 @@
 -- The outline's section "Settings, checked once at opening": each row of its table, those of a discharge (A1), and what is made of accepted
 -- settings.
-use Rattle.std.specs.Prelude.{ℕ, Bool, cond, not, ◌&&◌, ◌||◌, leb, ℤ, pos, nat_abs, ◌-ℤ◌, ◌*ℤ◌}
+use Rattle.std.specs.Prelude.{ℕ, Bool, cond, not, ◌&&◌, ◌||◌, leb, ℤ, pos, nat_abs, ◌-ℤ◌, ◌*ℤ◌, Option, None, Some}
 use Rattle.std.specs.Int.Signed.{le_z}
 use Rattle.whole.specs.Ints.{eq_z}
 use Rattle.types.specs.declared.settings.Given.{Given}
 use Rattle.types.specs.declared.settings.Mode.{Mode}
 use Rattle.types.specs.declared.settings.Mode.TheVariants as mode
 use Rattle.types.specs.declared.settings.Settings.{Settings}
-use Rattle.types.specs.declared.settings.Opening.{Opening}
-use Rattle.types.specs.declared.settings.Opening.TheVariants as opening
 use Rattle.types.specs.declared.analog.Board.{Board}
 use Rattle.types.specs.declared.analog.Board.TheVariants as board
 use Rattle.outline.specs.Limits.{count_limit, capacity_limit, zero_range_limit, track_time_limit, track_width_limit, allowance_limit}
@@ -112,5 +110,5 @@ settings_of g = record {
 }
 
 -- "Any value outside its range gives answer 10 and no state."
-unfoldable pub open_of : Given → Opening
-open_of g = cond (settings_fit g) (opening.Accepted (settings_of g)) opening.Refused
+unfoldable pub open_of : Given → Option Settings
+open_of g = cond (settings_fit g) (Some (settings_of g)) None

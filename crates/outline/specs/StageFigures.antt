@@ -1,10 +1,9 @@
 -- Worked by hand from the outline: batches with five delays of their own, errors in every stage, judgement, and booking at its limits.
 -- Statements; they are computed in proofs/StageFigures.antt.
-use Rattle.std.specs.Prelude.{ℕ, ◌≡◌, List, [], ◌∷◌, ◌++◌, replicate, set, ℤ, pos}
+use Rattle.std.specs.Prelude.{ℕ, ◌≡◌, List, [], ◌∷◌, ◌++◌, replicate, set, ℤ, pos, None}
 use Rattle.types.specs.declared.settings.Settings.{Settings}
 use Rattle.types.specs.declared.requests.Request.TheVariants as request
 use Rattle.types.specs.declared.stages.Totals.{Totals}
-use Rattle.types.specs.declared.stages.Batch.TheVariants as batch
 use Rattle.outline.specs.Settings.{settings_of}
 use Rattle.outline.specs.Stages.{open_sequence}
 use Rattle.outline.specs.Totals.{booked_totals, booked_sequence}
@@ -82,7 +81,7 @@ judged_at count =
 
 -- ---- booking: total, count and error where a batch of v finishes with these
 abbrev pub totals_at : ℕ → ℕ → Totals
-totals_at total count = record { total = total; count = count; back = batch.Nothing }
+totals_at total count = record { total = total; count = count; back = None }
 
 abbrev pub booking : ℕ → ℕ → ℤ → List ℕ
 booking total count v =

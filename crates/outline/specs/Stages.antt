@@ -1,6 +1,6 @@
 -- The outline's section "Stages": the sequence 00, 03 to 11, its errors, its gates and its judgement; and request A1, the discharge, 14 to
 -- 16. Booking stands in Totals.antt.
-use Rattle.std.specs.Prelude.{ℕ, suc, ◌+◌, Bool, true, false, cond, not, ◌&&◌, ◌||◌, leb, ltb, eqb, ℤ, pos, neg_ℤ, ◌-ℤ◌}
+use Rattle.std.specs.Prelude.{ℕ, suc, ◌+◌, Bool, true, false, cond, not, ◌&&◌, ◌||◌, leb, ltb, eqb, ℤ, pos, neg_ℤ, ◌-ℤ◌, Option, None, Some}
 use Rattle.std.specs.Int.Signed.{le_z, lt_z}
 use Rattle.types.specs.declared.settings.Mode.{Mode}
 use Rattle.types.specs.declared.settings.Mode.TheVariants as mode
@@ -18,8 +18,6 @@ use Rattle.types.specs.declared.stages.SequenceError.TheVariants as error
 use Rattle.types.specs.declared.stages.Sequence.{Sequence}
 use Rattle.types.specs.declared.stages.Gates.{Gates}
 use Rattle.types.specs.declared.stages.Facts.{Facts}
-use Rattle.types.specs.declared.stages.Timing.{Timing}
-use Rattle.types.specs.declared.stages.Timing.TheVariants as timing
 use Rattle.types.specs.declared.stages.Move.{Move}
 use Rattle.types.specs.declared.stages.Move.TheVariants.{To, Fail, Finish, Emptied}
 use Rattle.types.specs.declared.stages.Advanced.{Advanced}
@@ -57,13 +55,13 @@ unfoldable pub facts_of : Mode → Setpoints → Weights → Facts
 facts_of m p x = facts_at p (not (fit_of x)) x.stable (compared_of m x) x.gross
 
 -- "A timed stage of n lasts max(n, 1) ticks": t of them lie before this one, which is the last if t + 1 is n or more.
-unfoldable pub wait_of : ℕ → ℕ → Timing
-wait_of n t = cond (leb n (suc t)) timing.Over (timing.Still (suc t))
+unfoldable pub wait_of : ℕ → ℕ → Option ℕ
+wait_of n t = cond (leb n (suc t)) None (Some (suc t))
 
 -- a timed stage stays, with one tick more behind it, or makes its move
-abbrev pub timed : Timing → (ℕ → Stage) → Move → Move
-timed timing.Over stay move = move
-timed (timing.Still t) stay move = To (stay t)
+abbrev pub timed : Option ℕ → (ℕ → Stage) → Move → Move
+timed None stay move = move
+timed (Some t) stay move = To (stay t)
 
 -- a stage that lasts until something is so
 abbrev pub until : Bool → Stage → Move → Move

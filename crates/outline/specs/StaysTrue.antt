@@ -1,24 +1,21 @@
 -- What stays true after any ticks and requests from an accepted opening: demand 3, as named statements. They are proved in proofs/,
 -- and `every_run` has them as its `ensures`. Histories stand in Run, Day, Zeroing, Ledger and Writes, ranges in
 -- Ranges.
-use Rattle.std.specs.Prelude.{ℕ, ◌+◌, ◌≤◌, ◌≡◌, Bool, true, false, ◌&&◌, ◌||◌, length, take, drop, ℤ, pos, nat_abs, ◌+ℤ◌, ◌-ℤ◌}
+use Rattle.std.specs.Prelude.{ℕ, ◌+◌, ◌≤◌, ◌≡◌, Bool, true, false, ◌&&◌, ◌||◌, length, take, drop, ℤ, pos, nat_abs, ◌+ℤ◌, ◌-ℤ◌, Option, None, Some, Ok, Err}
 use mathlib.Core.List.{List, [], ◌∷◌, foldl}
 use Rattle.types.specs.declared.settings.Settings.{Settings}
-use Rattle.types.specs.declared.daybook.Closed.TheVariants as closed
 use Rattle.types.specs.declared.requests.Request.TheVariants as request
 use Rattle.types.specs.declared.requests.Refusal.TheVariants as refusal
-use Rattle.types.specs.declared.requests.Outcome.TheVariants as outcome
 use Rattle.types.specs.declared.stages.Setpoints.{Setpoints}
-use Rattle.types.specs.declared.stages.Waiting.{Waiting}
-use Rattle.types.specs.declared.stages.Write.TheVariants as write
 use Rattle.types.specs.declared.stages.SequenceError.TheVariants as error
 use Rattle.types.specs.declared.stages.Gates.{Gates}
 use Rattle.types.specs.declared.stages.Totals.{Totals}
 use Rattle.types.specs.declared.machine.State.{State}
 use Rattle.types.specs.declared.machine.Input.{Input}
 use Rattle.types.specs.declared.machine.Answer.{Answer}
-use Rattle.types.specs.declared.lines.Command.TheVariants as command
-use Rattle.types.specs.declared.lines.LineAnswer.TheVariants as told
+use Rattle.types.specs.declared.lines.Order.TheVariants as order
+use Rattle.types.specs.declared.lines.LineFault.TheVariants as fault
+use Rattle.types.specs.declared.lines.LineRefusal.TheVariants as told
 use Rattle.types.specs.declared.lines.LineTick.{LineTick}
 use Rattle.types.specs.declared.lines.Word.TheVariants as word
 use Rattle.outline.specs.Limits.{block_limit, total_limit, batch_limit}
@@ -110,7 +107,7 @@ pub record AsUnasked (s : Settings) (st : State) (i : Input) : Type 0 where
   pub near : (tick_of s st i).answer.near ≡ (tick_of s st (without_request i)).answer.near
   pub full : (tick_of s st i).answer.full ≡ (tick_of s st (without_request i)).answer.full
   pub analog : (tick_of s st i).answer.analog ≡ (tick_of s st (without_request i)).answer.analog
-  pub closed : (tick_of s st i).answer.closed ≡ closed.Nothing
+  pub closed : (tick_of s st i).answer.closed ≡ None
 
 abbrev pub Refusals : Type 0
 Refusals = (s : Settings) (st : State) (i : Input) → done_of (tick_of s st i).answer.outcome ≡ false → AsUnasked s st i
@@ -132,17 +129,17 @@ figures_of s receive = take 42 (drop (prefix_length s.address + 2) (line_of rece
 -- an accepted SS, then any ticks of which none writes setpoints, then RS: the reply due to it is the figures of SS, with prefix and CR LF
 abbrev pub ReadBack : Type 0
 ReadBack = (s : Settings) → Accepted s → (h : History Input) (count : ℤ) (contact : Bool) (receive buffer : List ℕ) (p : Setpoints)
-    → command_of receive s.address ≡ command.Set p
-    → (line_tick_of s (run_of s h) count contact receive buffer).told ≡ told.Done
+    → command_of receive s.address ≡ Ok (order.Set p)
+    → (line_tick_of s (run_of s h) count contact receive buffer).told ≡ Ok tt
     → let after = h ▷ line_input s (run_of s h) count contact receive buffer in
     (later : List Input) → NoneSet s (run_of s after) later
-    → (count' : ℤ) (contact' : Bool) (receive' : List ℕ) → command_of receive' s.address ≡ command.Do word.ReadSetpoints
+    → (count' : ℤ) (contact' : Bool) (receive' : List ℕ) → command_of receive' s.address ≡ Ok (order.Do word.ReadSetpoints)
     → due_text s (run_of s (then_all after later)) count' contact' receive' ≡ framed s.address (figures_of s receive)
 
 -- ---- 10. what a day close answers is the book that the same tick without the close would have left
 abbrev pub Ticket : Type 0
-Ticket = (s : Settings) (st : State) (i : Input) → i.request ≡ request.DayClose → (tick_of s st i).answer.outcome ≡ outcome.Done
-    → (tick_of s st i).answer.closed ≡ closed.Day (next_of s st (without_request i)).book
+Ticket = (s : Settings) (st : State) (i : Input) → i.request ≡ request.DayClose → (tick_of s st i).answer.outcome ≡ Ok tt
+    → (tick_of s st i).answer.closed ≡ Some (next_of s st (without_request i)).book
 
 -- ---- 11. blocks, ticks with lines and ticks of a log are runs
 abbrev pub BlocksAreRuns : Type 0
@@ -182,7 +179,7 @@ pub record Kept (s : Settings) (st : State) (i : Input) : Type 0 where
 
 -- in the tick that begins it, and in every tick that finds it under way, the one that ends it too, whether by near zero or by an error
 pub record Discharges (s : Settings) (st : State) (i : Input) : Type 0 where
-  pub begins : i.request ≡ request.Discharge → (tick_of s st i).answer.outcome ≡ outcome.Done → Kept s st i
+  pub begins : i.request ≡ request.Discharge → (tick_of s st i).answer.outcome ≡ Ok tt → Kept s st i
   pub goes_on : discharging_of st.sequence.stage ≡ true → Kept s st i
 
 abbrev pub DischargeIsNoBatch : Type 0
@@ -202,7 +199,7 @@ FromRange = (s : Settings) (st : State) → StateRange s st → Balanced st.book
 
 -- ---- 15. A5: the waiting set is the last accepted write since the stage was last 00, and there is none in 00
 abbrev pub WaitingOfWrites : Type 0
-WaitingOfWrites = (s : Settings) → Accepted s → (h : History Input) → (run_of s h).waiting.write ≡ written_since (points_run s h)
+WaitingOfWrites = (s : Settings) → Accepted s → (h : History Input) → (run_of s h).waiting ≡ written_since (points_run s h)
 
 -- ---- 16. A5: the set in use never changes outside 00: a tick that changes it, in whatever state, answers stage 00
 abbrev pub InUseStays : Type 0
@@ -212,8 +209,8 @@ InUseStays = (s : Settings) (st : State) (i : Input) → idle_of (tick_of s st i
 -- ---- 17. A5: "It comes into use": the waiting set, or the set in use where none waits, is the last accepted write of the run; in 00 the
 -- set in use is
 pub record Latest (s : Settings) (h : History Input) : Type 0 where
-  pub read : write.Points (latest_of (run_of s h).setpoints (run_of s h).waiting) ≡ written_last (points_run s h)
-  pub in_use : idle_now (run_of s h) ≡ true → write.Points (run_of s h).setpoints ≡ written_last (points_run s h)
+  pub read : Some (latest_of (run_of s h).setpoints (run_of s h).waiting) ≡ written_last (points_run s h)
+  pub in_use : idle_now (run_of s h) ≡ true → Some (run_of s h).setpoints ≡ written_last (points_run s h)
 
 abbrev pub LatestOfWrites : Type 0
 LatestOfWrites = (s : Settings) → Accepted s → (h : History Input) → Latest s h
@@ -224,7 +221,7 @@ abbrev pub beside_sets : State → State
 beside_sets st = with_waiting (with_setpoints st open_setpoints) none_waiting
 
 abbrev pub WaitingAside : Type 0
-WaitingAside = (s : Settings) (st : State) (w : Waiting) (i : Input)
+WaitingAside = (s : Settings) (st : State) (w : Option Setpoints) (i : Input)
     → beside_sets (next_of s (with_waiting st w) i) ≡ beside_sets (next_of s st i)
 
 -- ---- 19. A5: and a write outside 00, in the tick of a finish or an error too, does no more than none does to any part but the two sets
@@ -241,7 +238,7 @@ pub record Connected (s : Settings) (st : State) (i : Input) : Type 0 where
   pub counter : (next_of s st i).weighing.counter ≡ 0
   pub refused : i.request ≡ request.Zero → done_of (tick_of s st i).answer.outcome ≡ false
   pub number : i.request ≡ request.Zero → fit_of (served_of s st i) ≡ true → idle_now st ≡ true
-      → (tick_of s st i).answer.outcome ≡ outcome.Refused refusal.ContactClosed
+      → (tick_of s st i).answer.outcome ≡ Err refusal.ContactClosed
 
 abbrev pub ZeroWhileConnected : Type 0
 ZeroWhileConnected = (s : Settings) (st : State) (i : Input) → i.contact ≡ true → Connected s st i
@@ -271,7 +268,7 @@ beside_day a = record {
   near = a.near;
   full = a.full;
   analog = a.analog;
-  closed = closed.Nothing;
+  closed = None;
 }
 
 -- without book, zero and tracking; the tare stays

@@ -1,10 +1,7 @@
 -- The outline's section "One tick, in this order", the opening state, and blocks.
-use Rattle.std.specs.Prelude.{Bool, false, cond, not, ◌&&◌, leb, length, ℤ, pos}
+use Rattle.std.specs.Prelude.{Bool, false, cond, not, ◌&&◌, leb, length, ℤ, pos, Option, None, Some, Ok, Err}
 use mathlib.Core.List.{List, [], ◌∷◌, foldl}
 use Rattle.types.specs.declared.settings.Settings.{Settings}
-use Rattle.types.specs.declared.settings.Opening.{Opening}
-use Rattle.types.specs.declared.settings.Opening.TheVariants as opening
-use Rattle.types.specs.declared.weight.Raw.{Raw}
 use Rattle.types.specs.declared.weight.Weights.{Weights}
 use Rattle.types.specs.declared.weight.Display.TheVariants as display
 use Rattle.types.specs.declared.requests.Request.TheVariants as request
@@ -16,7 +13,7 @@ use Rattle.types.specs.declared.machine.Reading.{Reading}
 use Rattle.types.specs.declared.machine.Answer.{Answer}
 use Rattle.types.specs.declared.machine.Ticked.{Ticked}
 use Rattle.types.specs.declared.machine.Blocked.{Blocked}
-use Rattle.types.specs.declared.machine.BlockAnswer.TheVariants as block
+use Rattle.types.specs.declared.machine.BlockRefusal.TheVariants as block
 use Rattle.outline.specs.Limits.{block_limit}
 use Rattle.outline.specs.Weight.{raw_of, weigh_of, steadied_of, fit_of, displayed_of}
 use Rattle.outline.specs.DayBook.{open_book, book_of}
@@ -43,17 +40,17 @@ open_state = record {
 }
 
 -- the state that an opening gives: "answer 10 and no state", or the opening state
-abbrev pub opened_of : Opening → List State
-opened_of opening.Refused = []
-opened_of (opening.Accepted s) = open_state ∷ []
+abbrev pub opened_of : Option Settings → List State
+opened_of None = []
+opened_of (Some s) = open_state ∷ []
 
 -- "2. Day book.", and of step 3 the stability. The change of raw is from the last good raw as it was before this tick.
-unfoldable pub entered_of : Settings → State → Raw → Bool → State
+unfoldable pub entered_of : Settings → State → Option ℤ → Bool → State
 entered_of s st raw contact =
     with_stability (with_book st (book_of st.book raw contact)) (steadied_of s.steadiness st.stability st.book.last raw)
 
 -- "3. Gross, overload, stability.": the weights, with the zero and the tare of a state
-unfoldable pub weights_of : Settings → State → Raw → Bool → Weights
+unfoldable pub weights_of : Settings → State → Option ℤ → Bool → Weights
 weights_of s st raw contact = weigh_of s st.stability st.weighing raw contact
 
 -- "4. The tick's request (at most one)."
@@ -131,5 +128,5 @@ count_in s contact st count = next_of s st (unasked_of count contact)
 unfoldable pub block_of : Settings → State → List ℤ → Bool → Blocked
 block_of s st counts contact =
     cond (leb (length counts) block_limit)
-    (record { answer = block.Run; state = foldl (count_in s contact) st counts })
-    (record { answer = block.TooLong; state = st })
+    (record { answer = Ok tt; state = foldl (count_in s contact) st counts })
+    (record { answer = Err block.TooLong; state = st })

@@ -1,9 +1,7 @@
 -- The outline's section "Figures on both sides", its last part: what the ticket program prints. A text is the list of its bytes.
-use Rattle.std.specs.Prelude.{ℕ, zero, suc, ◌/◌, List, [], ◌∷◌, ◌++◌, Bool, false, cond, length, leb, ltb, ℤ, pos, nat_abs}
+use Rattle.std.specs.Prelude.{ℕ, zero, suc, ◌/◌, List, [], ◌∷◌, ◌++◌, Bool, false, cond, length, leb, ltb, ℤ, pos, nat_abs, Option, None, Some}
 use Rattle.std.specs.Int.Signed.{lt_z}
 use Rattle.types.specs.declared.daybook.Book.{Book}
-use Rattle.types.specs.declared.daybook.Closed.{Closed}
-use Rattle.types.specs.declared.daybook.Closed.TheVariants as closed
 use Rattle.types.specs.declared.weight.Weighing.{Weighing}
 use Rattle.types.specs.declared.stages.Totals.{Totals}
 use Rattle.outline.specs.Limits.{decimal_digits}
@@ -47,9 +45,9 @@ left_text w t =
     signed_text (ascii "tracked=") w.tracked ++ count_text (ascii "batches=") t.count ++ count_text (ascii "total=") t.total
 
 -- "it prints a ticket at each accepted DC"
-unfoldable pub ticket_text : Closed → Weighing → Totals → List ℕ
-ticket_text closed.Nothing w t = []
-ticket_text (closed.Day day) w t = day_text day ++ left_text w t
+unfoldable pub ticket_text : Option Book → Weighing → Totals → List ℕ
+ticket_text None w t = []
+ticket_text (Some day) w t = day_text day ++ left_text w t
 
 -- "ends at a line it can't read with `refused=` and the line's number"
 unfoldable pub refused_text : ℕ → List ℕ

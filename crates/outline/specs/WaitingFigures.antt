@@ -1,9 +1,8 @@
 -- Worked by hand from request A5: setpoints that are written while a batch or a discharge runs. Statements; they are computed in
 -- proofs/WaitingFigures.antt.
-use Rattle.std.specs.Prelude.{ℕ, ◌≡◌, true, false, [], ◌∷◌, ℤ, pos}
+use Rattle.std.specs.Prelude.{ℕ, ◌≡◌, true, false, [], ◌∷◌, ℤ, pos, Option}
 use Rattle.types.specs.declared.requests.Request.TheVariants as request
 use Rattle.types.specs.declared.stages.Setpoints.{Setpoints}
-use Rattle.types.specs.declared.stages.Waiting.{Waiting}
 use Rattle.types.specs.declared.machine.State.{State}
 use Rattle.outline.specs.Setpoints.{open_setpoints, none_waiting, waiting_for}
 use Rattle.outline.specs.Tick.{open_state}
@@ -80,7 +79,7 @@ abbrev pub in16 : State
 in16 = state_after settings10 (leg 1 (pos 100) (request.Set new) ∷ leg 1 (pos 0) request.Nothing ∷ []) emptying
 
 -- what stands of both sets
-abbrev pub Sets : State → Setpoints → Waiting → Type 0
+abbrev pub Sets : State → Setpoints → Option Setpoints → Type 0
 Sets st p w = (st.setpoints ≡ p) × (st.waiting ≡ w)
 
 pub record Waited : Type 0 where

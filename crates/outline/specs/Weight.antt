@@ -1,14 +1,12 @@
 -- The outline's section "From count to weight". Raw and gross fine are in tenths, gross divisions in divisions, gross, net and tare in
 -- display digits.
-use Rattle.std.specs.Prelude.{suc, ◌+◌, ◌*◌, min, Bool, true, false, cond, not, ◌&&◌, ltb, eqb, ℤ, pos, nat_abs, ◌-ℤ◌, ◌*ℤ◌}
+use Rattle.std.specs.Prelude.{suc, ◌+◌, ◌*◌, min, Bool, true, false, cond, not, ◌&&◌, ltb, eqb, ℤ, pos, nat_abs, ◌-ℤ◌, ◌*ℤ◌, Option, None, Some}
 use Rattle.whole.specs.Nearest.{nearest_of}
 use Rattle.whole.specs.Limit.{limit_to}
 use Rattle.types.specs.declared.settings.Calibration.{Calibration}
 use Rattle.types.specs.declared.settings.Range.{Range}
 use Rattle.types.specs.declared.settings.Steadiness.{Steadiness}
 use Rattle.types.specs.declared.settings.Settings.{Settings}
-use Rattle.types.specs.declared.weight.Raw.{Raw}
-use Rattle.types.specs.declared.weight.Raw.TheVariants.{Bad, Tenths}
 use Rattle.types.specs.declared.weight.Stability.{Stability}
 use Rattle.types.specs.declared.weight.Weighing.{Weighing}
 use Rattle.types.specs.declared.weight.Weights.{Weights}
@@ -26,8 +24,8 @@ abbrev pub tenths_of : Calibration → ℤ → ℤ
 tenths_of cal count = nearest_of ((count -ℤ cal.zero) *ℤ pos (10 * cal.weight)) cal.counts
 
 -- What a count makes. The second test is a guard: no accepted calibration makes a raw that it stops.
-unfoldable pub raw_of : Calibration → ℤ → Raw
-raw_of cal count = cond (good_count count && within raw_limit (tenths_of cal count)) (Tenths (tenths_of cal count)) Bad
+unfoldable pub raw_of : Calibration → ℤ → Option ℤ
+raw_of cal count = cond (good_count count && within raw_limit (tenths_of cal count)) (Some (tenths_of cal count)) None
 
 -- "Gross divisions = gross fine / 10, rounded the same way"
 abbrev pub divisions_of : ℤ → ℤ
@@ -51,8 +49,8 @@ stable_of rule q = eqb q.run rule.time
 
 -- "Gross fine = raw - zero in force. .. Net = gross - tare. In a bad tick gross and net are answered as 0, without overload." The tick's
 -- refill contact stands beside the weights: refusal 8 and tracking ask for it (A6).
-unfoldable pub weigh_of : Settings → Stability → Weighing → Raw → Bool → Weights
-weigh_of s q w Bad contact = record {
+unfoldable pub weigh_of : Settings → Stability → Weighing → Option ℤ → Bool → Weights
+weigh_of s q w None contact = record {
   good = false;
   contact = contact;
   raw = pos 0;
@@ -63,7 +61,7 @@ weigh_of s q w Bad contact = record {
   overload = false;
   stable = stable_of s.steadiness q;
 }
-weigh_of s q w (Tenths raw) contact =
+weigh_of s q w (Some raw) contact =
     let fine = raw -ℤ w.zero in
     let divisions = divisions_of fine in
     let gross = kept_of (gross_of s.range divisions) in
@@ -81,9 +79,9 @@ weigh_of s q w (Tenths raw) contact =
 
 -- "a good tick after a good tick whose raw changed by at most 10·s adds one to the run, which stops at k; any other tick makes it 0."
 -- `last` is the last good raw before this tick: that of the tick just before, where that one was good.
-unfoldable pub steadied_of : Steadiness → Stability → ℤ → Raw → Stability
-steadied_of rule q last Bad = record { good = false; run = 0 }
-steadied_of rule q last (Tenths raw) = record {
+unfoldable pub steadied_of : Steadiness → Stability → ℤ → Option ℤ → Stability
+steadied_of rule q last None = record { good = false; run = 0 }
+steadied_of rule q last (Some raw) = record {
   good = true;
   run = cond (q.good && within (10 * rule.width) (raw -ℤ last)) (min (suc q.run) rule.time) 0;
 }

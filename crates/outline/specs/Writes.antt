@@ -1,9 +1,8 @@
 -- Request A5: the waiting set, and the last accepted write of all, each worked out from what the ticks show: the setpoints that a tick
 -- accepts, and whether its stage is 00 after it.
-use Rattle.std.specs.Prelude.{Bool, cond}
+use Rattle.std.specs.Prelude.{Bool, cond, Option, None, Some}
+use Rattle.types.specs.declared.stages.Setpoints.{Setpoints}
 use Rattle.types.specs.declared.settings.Settings.{Settings}
-use Rattle.types.specs.declared.stages.Write.{Write}
-use Rattle.types.specs.declared.stages.Write.TheVariants as write
 use Rattle.types.specs.declared.machine.State.{State}
 use Rattle.types.specs.declared.machine.Input.{Input}
 use Rattle.outline.specs.Setpoints.{open_setpoints}
@@ -15,7 +14,7 @@ use Rattle.outline.specs.Run.{History, start, ◌▷◌, run_of}
 
 pub record PointsSeen : Type 0 where
   -- the setpoints that were written and accepted, if any
-  pub write : Write
+  pub write : Option Setpoints
   -- stage 00 after the tick
   pub idle : Bool
 
@@ -31,16 +30,16 @@ points_run s start = start
 points_run s (h ▷ i) = points_run s h ▷ points_seen s (run_of s h) i
 
 -- "a second write replaces the first"
-abbrev pub replaces : Write → Write → Write
-replaces write.Nothing before = before
-replaces (write.Points p) before = write.Points p
+abbrev pub replaces : Option Setpoints → Option Setpoints → Option Setpoints
+replaces None before = before
+replaces (Some p) before = Some p
 
 -- the last accepted write since the stage was last 00
-abbrev pub written_since : History PointsSeen → Write
-written_since start = write.Nothing
-written_since (h ▷ t) = cond t.idle write.Nothing (replaces t.write (written_since h))
+abbrev pub written_since : History PointsSeen → Option Setpoints
+written_since start = None
+written_since (h ▷ t) = cond t.idle None (replaces t.write (written_since h))
 
 -- the last accepted write of all; before any, the opening's setpoints
-abbrev pub written_last : History PointsSeen → Write
-written_last start = write.Points open_setpoints
+abbrev pub written_last : History PointsSeen → Option Setpoints
+written_last start = Some open_setpoints
 written_last (h ▷ t) = replaces t.write (written_last h)

@@ -1,9 +1,7 @@
 -- The zero in force, made of what each tick shows: its raw, its refill contact, whether its stage is 00 as step 4 leaves it, whether a zero
 -- was keyed.
-use Rattle.std.specs.Prelude.{ℕ, suc, ◌+◌, ◌*◌, ◌%◌, ◌≤◌, Bool, cond, not, ◌&&◌, List, [], ◌∷◌, leb, ltb, eqb, ℤ, pos, nat_abs, ◌+ℤ◌, ◌-ℤ◌}
+use Rattle.std.specs.Prelude.{ℕ, suc, ◌+◌, ◌*◌, ◌%◌, ◌≤◌, Bool, cond, not, ◌&&◌, List, [], ◌∷◌, leb, ltb, eqb, ℤ, pos, nat_abs, ◌+ℤ◌, ◌-ℤ◌, Option, None, Some}
 use Rattle.types.specs.declared.settings.Settings.{Settings}
-use Rattle.types.specs.declared.weight.Raw.{Raw}
-use Rattle.types.specs.declared.weight.Raw.TheVariants.{Bad, Tenths}
 use Rattle.types.specs.declared.machine.State.{State}
 use Rattle.types.specs.declared.machine.Input.{Input}
 use Rattle.outline.specs.Limits.{overload_margin}
@@ -14,7 +12,7 @@ use Rattle.outline.specs.Kinds.{request_kind}
 use Rattle.outline.specs.Run.{History, start, ◌▷◌, run_of}
 
 pub record Seen : Type 0 where
-  pub raw : Raw
+  pub raw : Option ℤ
   pub contact : Bool
   pub idle : Bool
   pub keyed : Bool
@@ -70,9 +68,9 @@ calm_step s z x = record { keyed = z.keyed; moves = cond (is_move s z x) ((x -�
 abbrev pub restless : Zeroing → Zeroing
 restless z = record { keyed = z.keyed; moves = z.moves; calm = 0 }
 
-abbrev pub zero_step : Settings → Zeroing → Seen → Raw → Zeroing
-zero_step s z t Bad = restless z
-zero_step s z t (Tenths x) =
+abbrev pub zero_step : Settings → Zeroing → Seen → Option ℤ → Zeroing
+zero_step s z t None = restless z
+zero_step s z t (Some x) =
     cond t.keyed (record { keyed = x; moves = []; calm = 0 })
     (cond (is_calm s z t x) (calm_step s z x) (restless z))
 

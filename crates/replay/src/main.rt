@@ -18,7 +18,7 @@ use logs::ticks::request_tick;
 use std::env::{Env, FillError};
 use std::io::{self, Read};
 use types::log::{Line, LogNumber};
-use types::settings::{Given, Opening, Settings};
+use types::settings::{Given, Settings};
 
 mod given;
 mod input;
@@ -78,8 +78,8 @@ fn opened(
     reply: &mut [u8],
 ) -> io::Result<()> {
     match open(g) {
-        Opening::Accepted(s) => run_ticks(rt, input, s, first, space, reply),
-        Opening::Refused => rt.write_all(b"answer=10\n"),
+        Some(s) => run_ticks(rt, input, s, first, space, reply),
+        None => rt.write_all(b"answer=10\n"),
     }
 }
 

@@ -13,7 +13,7 @@ use types::analog::Analog;
 use types::daybook::Book;
 use types::lines::LineTick;
 use types::machine::{Answer, Reading, State};
-use types::stages::{Gates, Judgement, SequenceError, Setpoints, Stage, Totals, Waiting, Write};
+use types::stages::{Gates, Judgement, SequenceError, Setpoints, Stage, Totals};
 use types::weight::Weighing;
 use whole::wide;
 
@@ -207,7 +207,7 @@ fn put_points(
 }
 
 // Those in use, then those waiting: a dash where there are none.
-fn put_setpoints(out: &mut [u8], at: usize, p: Setpoints, w: Waiting) -> usize {
+fn put_setpoints(out: &mut [u8], at: usize, p: Setpoints, w: Option<Setpoints>) -> usize {
     let write = w.write;
     let at = put(out, at, b" setpoints=");
     let at = put_points(
@@ -223,8 +223,8 @@ fn put_setpoints(out: &mut [u8], at: usize, p: Setpoints, w: Waiting) -> usize {
     );
     let at = put(out, at, b" waiting=");
     match write {
-        Write::Nothing => return put_byte(out, at, DASH),
-        Write::Points(n) => return put_points(
+        None => return put_byte(out, at, DASH),
+        Some(n) => return put_points(
             out,
             at,
             n.target,

@@ -6,9 +6,9 @@ ghost use Rattle.outline.specs.Replies.{word_request, request_of, request_reply,
 use crate::shown::shown_of;
 use commands::letters::{SET_LETTERS, letters_for};
 use setpoints::waiting::latest;
-use types::lines::{Command, LineAnswer, Reply, Word};
+use types::lines::{LineFault, LineRefusal, Order, Reply, Word};
 use types::machine::{Reading, State};
-use types::requests::{Outcome, Request};
+use types::requests::Request;
 
 // The three reads ask nothing of the tick: they are answered from what it shows.
 fn word_request(w: Word) -> Request
@@ -33,31 +33,31 @@ fn word_request(w: Word) -> Request
 }
 
 // A line that is refused asks for nothing, so that its tick runs as one without a request.
-pub fn request_of(c: Command) -> Request
+pub fn request_of(c: Result<Order, LineFault>) -> Request
     ensures { result ≡ request_of c }
 {
     match c {
-        Command::Do(w) => word_request(w),
-        Command::Set(p) => Request::Set(p),
-        Command::NoLine => Request::Nothing,
-        Command::LongLine => Request::Nothing,
-        Command::OtherAddress => Request::Nothing,
-        Command::Malformed => Request::Nothing,
-        Command::Unknown => Request::Nothing,
+        Ok(Order::Do(w)) => word_request(w),
+        Ok(Order::Set(p)) => Request::Set(p),
+        Err(LineFault::NoLine) => Request::Nothing,
+        Err(LineFault::LongLine) => Request::Nothing,
+        Err(LineFault::OtherAddress) => Request::Nothing,
+        Err(LineFault::Malformed) => Request::Nothing,
+        Err(LineFault::Unknown) => Request::Nothing,
     }
 }
 
-fn request_reply(letters: u16, o: Outcome) -> Reply
+fn request_reply(letters: u16, o: Result<(), Refusal>) -> Reply
     ensures { result ≡ request_reply letters o }
 {
     match o {
-        Outcome::Done => Reply::Letters(letters),
-        Outcome::Refused(n) => Reply::Refused(numbers::refusal_number(n)),
+        Ok(()) => Reply::Letters(letters),
+        Err(n) => Reply::Refused(numbers::refusal_number(n)),
     }
 }
 
 // A read shows the state; another word is replied by how it was settled.
-fn word_reply(w: Word, st: State, x: Reading, o: Outcome) -> Reply
+fn word_reply(w: Word, st: State, x: Reading, o: Result<(), Refusal>) -> Reply
     ensures { result ≡ word_reply w st x o }
 {
     match w {
@@ -77,40 +77,40 @@ fn word_reply(w: Word, st: State, x: Reading, o: Outcome) -> Reply
 
 // The reply due to a line, from the state as step 4 leaves it and the tick's reading and outcome. Who did not speak to this address, or
 // sent no line that can be told from noise, hears nothing.
-pub fn reply_due(c: Command, st: State, x: Reading, o: Outcome) -> Reply
+pub fn reply_due(c: Result<Order, LineFault>, st: State, x: Reading, o: Result<(), Refusal>) -> Reply
     ensures { result ≡ reply_due c st x o }
 {
     match c {
-        Command::Do(w) => word_reply(w, st, x, o),
-        Command::Set(_) => request_reply(SET_LETTERS, o),
-        Command::NoLine => Reply::Silent,
-        Command::LongLine => Reply::Silent,
-        Command::OtherAddress => Reply::Silent,
-        Command::Malformed => Reply::Refused(numbers::told_number(LineAnswer::Malformed)),
-        Command::Unknown => Reply::Refused(numbers::told_number(LineAnswer::Unknown)),
+        Ok(Order::Do(w)) => word_reply(w, st, x, o),
+        Ok(Order::Set(_)) => request_reply(SET_LETTERS, o),
+        Err(LineFault::NoLine) => Reply::Silent,
+        Err(LineFault::LongLine) => Reply::Silent,
+        Err(LineFault::OtherAddress) => Reply::Silent,
+        Err(LineFault::Malformed) => Reply::Refused(numbers::told_number(Err(LineRefusal::Malformed))),
+        Err(LineFault::Unknown) => Reply::Refused(numbers::told_number(Err(LineRefusal::Unknown))),
     }
 }
 
-fn outcome_told(o: Outcome) -> LineAnswer
+fn outcome_told(o: Result<(), Refusal>) -> Result<(), LineRefusal>
     ensures { result ≡ outcome_told o }
 {
     match o {
-        Outcome::Done => LineAnswer::Done,
-        Outcome::Refused(n) => LineAnswer::Refused(n),
+        Ok(()) => Ok(()),
+        Err(n) => Err(LineRefusal::Request(n)),
     }
 }
 
 // What a line is told, where the reply due to it fits. Only a line that was understood is answered by the tick's outcome.
-pub fn told_of(c: Command, o: Outcome) -> LineAnswer
+pub fn told_of(c: Result<Order, LineFault>, o: Result<(), Refusal>) -> Result<(), LineRefusal>
     ensures { result ≡ told_of c o }
 {
     match c {
-        Command::Do(_) => outcome_told(o),
-        Command::Set(_) => outcome_told(o),
-        Command::NoLine => LineAnswer::Malformed,
-        Command::LongLine => LineAnswer::Malformed,
-        Command::OtherAddress => LineAnswer::OtherAddress,
-        Command::Malformed => LineAnswer::Malformed,
-        Command::Unknown => LineAnswer::Unknown,
+        Ok(Order::Do(_)) => outcome_told(o),
+        Ok(Order::Set(_)) => outcome_told(o),
+        Err(LineFault::NoLine) => Err(LineRefusal::Malformed),
+        Err(LineFault::LongLine) => Err(LineRefusal::Malformed),
+        Err(LineFault::OtherAddress) => Err(LineRefusal::OtherAddress),
+        Err(LineFault::Malformed) => Err(LineRefusal::Malformed),
+        Err(LineFault::Unknown) => Err(LineRefusal::Unknown),
     }
 }

@@ -58,14 +58,14 @@ pub fn write_reply(buffer: &mut [u8], address: u8, r: Reply) -> Wrote
 {
     let text = text_length(r);
     if text == 0 {
-        return Wrote::Bytes(0);
+        return Ok(0);
     }
     let prefix = prefix_length(address) as usize;
     if buffer.len() < prefix + text + END_BYTES {
-        return Wrote::Short;
+        return Err(ShortBuffer);
     }
     let n = put_prefix(buffer, address);
     let n = put_text(buffer, n, r);
     let n = put_pair(buffer, n, CR, LF);
-    Wrote::Bytes(n)
+    Ok(n)
 }

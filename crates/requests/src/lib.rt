@@ -2,108 +2,108 @@
 // section, which the tick makes.
 #![tactic(auto)]
 
-ghost use Rattle.std.specs.Prelude.{◌≡◌, cond, [], ◌∷◌};
+ghost use Rattle.std.specs.Prelude.{◌≡◌, cond, [], ◌∷◌, Err};
 ghost use Rattle.outline.specs.Requests.{row1, row2, row3, row4, row5, row6, row7, row8, row9, rows_to, first_of, grant_of};
 ghost use Rattle.outline.specs.Setpoints.{setpoints_fit};
 
-use types::requests::{Outcome, Refusal, Request};
+use types::requests::{Refusal, Request};
 use types::settings::{Mode, Range};
 use types::stages::{Sequence, Setpoints, Totals};
 use types::weight::Weights;
 
 // Row 1; `after` is what the rows after it say.
-fn good_ruling(x: Weights, after: Outcome) -> Outcome
-    ensures { result ≡ cond (row1 x).applies (Outcome.Refused (row1 x).number) after }
+fn good_ruling(x: Weights, after: Result<(), Refusal>) -> Result<(), Refusal>
+    ensures { result ≡ cond (row1 x).applies (Err (row1 x).number) after }
 {
     if x.good {
         return after;
     }
-    Outcome::Refused(Refusal::BadTick)
+    Err(Refusal::BadTick)
 }
 
 // Rows 1 and 2.
-fn fit_ruling(x: Weights, rest: Outcome) -> Outcome
-    ensures { result ≡ cond (row1 x).applies (Outcome.Refused (row1 x).number) (cond (row2 x).applies (Outcome.Refused (row2 x).number) rest) }
+fn fit_ruling(x: Weights, rest: Result<(), Refusal>) -> Result<(), Refusal>
+    ensures { result ≡ cond (row1 x).applies (Err (row1 x).number) (cond (row2 x).applies (Err (row2 x).number) rest) }
 {
     if !x.good {
-        return Outcome::Refused(Refusal::BadTick);
+        return Err(Refusal::BadTick);
     }
     if x.overload {
-        return Outcome::Refused(Refusal::Overload);
+        return Err(Refusal::Overload);
     }
     rest
 }
 
 // Row 3.
-fn idle_ruling(q: Sequence, rest: Outcome) -> Outcome
-    ensures { result ≡ cond (row3 q).applies (Outcome.Refused (row3 q).number) rest }
+fn idle_ruling(q: Sequence, rest: Result<(), Refusal>) -> Result<(), Refusal>
+    ensures { result ≡ cond (row3 q).applies (Err (row3 q).number) rest }
 {
     let stage = q.stage;
     if batch::sequence::is_idle(stage) {
         return rest;
     }
-    Outcome::Refused(Refusal::NotIdle)
+    Err(Refusal::NotIdle)
 }
 
 // Rows 3, 8, 4 and 5, of zero and tare. `barred` is the test of row 8, which is to zero only; `inside` is the test of the request's own
 // rule.
-fn still_ruling(q: Sequence, x: Weights, barred: bool, inside: bool) -> Outcome
+fn still_ruling(q: Sequence, x: Weights, barred: bool, inside: bool) -> Result<(), Refusal>
     ensures { result ≡ first_of (row3 q ∷ row8 barred ∷ row4 x ∷ row5 inside ∷ []) }
 {
     let stage = q.stage;
     let idle = batch::sequence::is_idle(stage);
     let stable = x.stable;
     if !idle {
-        return Outcome::Refused(Refusal::NotIdle);
+        return Err(Refusal::NotIdle);
     }
     if barred {
-        return Outcome::Refused(Refusal::ContactClosed);
+        return Err(Refusal::ContactClosed);
     }
     if !stable {
-        return Outcome::Refused(Refusal::Unstable);
+        return Err(Refusal::Unstable);
     }
     if inside {
-        return Outcome::Done;
+        return Ok(());
     }
-    Outcome::Refused(Refusal::OutsideRules)
+    Err(Refusal::OutsideRules)
 }
 
 // Row 6.
-fn set_ruling(mode: Mode, p: Setpoints) -> Outcome
+fn set_ruling(mode: Mode, p: Setpoints) -> Result<(), Refusal>
     ensures { result ≡ first_of (row6 (setpoints_fit mode p) ∷ []) }
 {
     if setpoints::setpoints_fit(mode, p) {
-        return Outcome::Done;
+        return Ok(());
     }
-    Outcome::Refused(Refusal::SetpointRules)
+    Err(Refusal::SetpointRules)
 }
 
 // Row 7.
-fn undo_ruling(t: Totals) -> Outcome
+fn undo_ruling(t: Totals) -> Result<(), Refusal>
     ensures { result ≡ first_of (row7 t ∷ []) }
 {
     if totals::has_none_back(t) {
-        return Outcome::Refused(Refusal::NothingToTakeBack);
+        return Err(Refusal::NothingToTakeBack);
     }
-    Outcome::Done
+    Ok(())
 }
 
 // Row 9.
-fn mode_ruling(mode: Mode) -> Outcome
+fn mode_ruling(mode: Mode) -> Result<(), Refusal>
     ensures { result ≡ first_of (row9 mode ∷ []) }
 {
     match mode {
-        Mode::Normal => Outcome::Done,
-        Mode::Loss => Outcome::Refused(Refusal::LossInWeight),
+        Mode::Normal => Ok(()),
+        Mode::Loss => Err(Refusal::LossInWeight),
     }
 }
 
 // The table, turned: the rows that each request can meet, in the order in which they are tested, and the first that applies.
-pub fn ruling(range: Range, mode: Mode, q: Sequence, t: Totals, x: Weights, r: Request) -> Outcome
+pub fn ruling(range: Range, mode: Mode, q: Sequence, t: Totals, x: Weights, r: Request) -> Result<(), Refusal>
     ensures { result ≡ first_of (rows_to range mode q t x r) }
 {
     match r {
-        Request::Nothing => return Outcome::Done,
+        Request::Nothing => return Ok(()),
         Request::Zero => {
             let inside = zero::in_zero_range(range, x.raw);
             return fit_ruling(x, still_ruling(q, x, x.contact, inside));
@@ -112,25 +112,25 @@ pub fn ruling(range: Range, mode: Mode, q: Sequence, t: Totals, x: Weights, r: R
             let inside = zero::in_tare_range(range, x.divisions);
             return fit_ruling(x, still_ruling(q, x, false, inside));
         }
-        Request::TareClear => return idle_ruling(q, Outcome::Done),
-        Request::Start => return fit_ruling(x, idle_ruling(q, Outcome::Done)),
-        Request::Stop => return Outcome::Done,
+        Request::TareClear => return idle_ruling(q, Ok(())),
+        Request::Start => return fit_ruling(x, idle_ruling(q, Ok(()))),
+        Request::Stop => return Ok(()),
         Request::Set(p) => return set_ruling(mode, p),
-        Request::TotalClear => return Outcome::Done,
+        Request::TotalClear => return Ok(()),
         Request::Undo => return undo_ruling(t),
-        Request::ShowGross => return Outcome::Done,
-        Request::ShowNet => return Outcome::Done,
-        Request::DayClose => return good_ruling(x, Outcome::Done),
+        Request::ShowGross => return Ok(()),
+        Request::ShowNet => return Ok(()),
+        Request::DayClose => return good_ruling(x, Ok(())),
         Request::Discharge => return fit_ruling(x, idle_ruling(q, mode_ruling(mode))),
     }
 }
 
 // The request that is done: none where it is refused.
-pub fn granted(o: Outcome, r: Request) -> Request
+pub fn granted(o: Result<(), Refusal>, r: Request) -> Request
     ensures { result ≡ grant_of o r }
 {
     match o {
-        Outcome::Done => r,
-        Outcome::Refused(_) => Request::Nothing,
+        Ok(()) => r,
+        Err(_) => Request::Nothing,
     }
 }

@@ -1,4 +1,5 @@
 -- A tick with a line, put together from what its parts give: the command, the tick, the reply due and what was written. Assumes nothing.
+use Rattle.std.specs.Prelude.{Result, Err}
 use Prim.Native.Nat.{ℕ}
 use native.Mathlib.Omega.{arith}
 use mathlib.Core.Path.{◌≡◌, refl, sym, ap, ◌∙◌}
@@ -11,10 +12,11 @@ use Rattle.types.specs.declared.settings.Settings.{Settings}
 use Rattle.types.specs.declared.requests.Request.{Request}
 use Rattle.types.specs.declared.machine.State.{State}
 use Rattle.types.specs.declared.machine.Ticked.{Ticked}
-use Rattle.types.specs.declared.lines.Command.{Command}
+use Rattle.types.specs.declared.lines.Order.{Order}
+use Rattle.types.specs.declared.lines.LineFault.{LineFault}
 use Rattle.types.specs.declared.lines.Reply.{Reply}
-use Rattle.types.specs.declared.lines.LineAnswer.{LineAnswer}
-use Rattle.types.specs.declared.lines.LineAnswer.TheVariants as told
+use Rattle.types.specs.declared.lines.LineRefusal.{LineRefusal}
+use Rattle.types.specs.declared.lines.LineRefusal.TheVariants as told
 use Rattle.types.specs.declared.lines.LineTick.{LineTick}
 use Rattle.outline.specs.Tick.{settled_of, outputs_of, tick_of, unasked_of}
 use Rattle.outline.specs.Lines.{command_of}
@@ -25,7 +27,7 @@ use Rattle.replies.specs.declared.Wrote.TheVariants.{Bytes, Short}
 use Rattle.replies.specs.Wrote.{wrote_of}
 
 -- what the writer answered decides the case, and gives the length
-fitted_case : (t : Bool) (k n : ℕ) (a : LineAnswer) (tick : Ticked) (other : LineTick) → cond t (Bytes k) Short ≡ Bytes n → line_ticked a n tick ≡ cond t (line_ticked a k tick) other
+fitted_case : (t : Bool) (k n : ℕ) (a : Result (Unit {0}) LineRefusal) (tick : Ticked) (other : LineTick) → cond t (Bytes k) Short ≡ Bytes n → line_ticked a n tick ≡ cond t (line_ticked a k tick) other
 fitted_case true k n a tick other e =
     let same : n ≡ k = cc in
     ap (λ (m : ℕ). line_ticked a m tick) same
@@ -36,7 +38,7 @@ short_case true k fit short e = let z : ◌≡◌ {A = ℕ} 0 1 = cc in absurd (
 short_case false k fit short e = refl
 
 module _ (s : Settings) (st : State) (count : ℤ) (contact : Bool) (receive buffer : List ℕ)
-    (command : Command) (request : Request) (tick : Ticked) (due : Reply) (wrote : Wrote) (after : List ℕ)
+    (command : Result Order LineFault) (request : Request) (tick : Ticked) (due : Reply) (wrote : Wrote) (after : List ℕ)
     (ec : command ≡ command_of receive s.address)
     (er : request ≡ request_of command)
     (et : tick ≡ tick_of s st (record { count = count; contact = contact; request = request }))
@@ -61,7 +63,7 @@ module _ (s : Settings) (st : State) (count : ℤ) (contact : Bool) (receive buf
   unfolding reply_buffer
   bytes_due = ea ∙ ap (λ (text : List ℕ). written_of text buffer) text_due
 
-  pub fitted : (n : ℕ) → wrote ≡ Bytes n → (t : LineAnswer) → t ≡ told_of command tick.answer.outcome → (r : LineTick) → r ≡ line_ticked t n tick
+  pub fitted : (n : ℕ) → wrote ≡ Bytes n → (t : Result (Unit {0}) LineRefusal) → t ≡ told_of command tick.answer.outcome → (r : LineTick) → r ≡ line_ticked t n tick
       → (r ≡ line_tick_of s st count contact receive buffer) × (after ≡ reply_buffer s st count contact receive buffer)
   unfolding line_tick_of wrote_of tick_of outputs_of
   fitted n e t ett r err = (
@@ -72,7 +74,7 @@ module _ (s : Settings) (st : State) (count : ℤ) (contact : Bool) (receive buf
     bytes_due,
   )
 
-  pub short : wrote ≡ Short → (r : LineTick) → r ≡ line_ticked told.ShortBuffer 0 (tick_of s st (unasked_of count contact))
+  pub short : wrote ≡ Short → (r : LineTick) → r ≡ line_ticked (Err told.ShortBuffer) 0 (tick_of s st (unasked_of count contact))
       → (r ≡ line_tick_of s st count contact receive buffer) × (after ≡ reply_buffer s st count contact receive buffer)
   unfolding line_tick_of wrote_of
   short e r err = (

@@ -9,11 +9,11 @@ ghost use Rattle.outline.specs.Replies.{line_ticked, line_tick_of, reply_buffer}
 
 use replies::Wrote;
 use replies::due::{reply_due, request_of, told_of};
-use types::lines::{LineAnswer, LineTick};
+use types::lines::{LineRefusal, LineTick};
 use types::machine::{Answer, Input, State};
 use types::settings::Settings;
 
-fn with_line(told: LineAnswer, length: usize, answer: Answer, state: State) -> LineTick
+fn with_line(told: Result<(), LineRefusal>, length: usize, answer: Answer, state: State) -> LineTick
     ensures { result ≡ record { told = told; length = length; answer = answer; state = state } }
 {
     LineTick {
@@ -25,7 +25,7 @@ fn with_line(told: LineAnswer, length: usize, answer: Answer, state: State) -> L
 }
 
 // A tick without a request, and what its line is told: nothing is replied.
-fn silent_tick(told: LineAnswer, s: Settings, st: State, count: i32, contact: bool) -> LineTick
+fn silent_tick(told: Result<(), LineRefusal>, s: Settings, st: State, count: i32, contact: bool) -> LineTick
     ensures { result ≡ line_ticked told 0 (tick_of s st (unasked_of count contact)) }
 {
     let t = controller::unasked::unasked_tick(s, st, count, contact);
@@ -34,9 +34,9 @@ fn silent_tick(told: LineAnswer, s: Settings, st: State, count: i32, contact: bo
 
 // A tick that no line comes with.
 pub fn lineless_tick(s: Settings, st: State, count: i32, contact: bool) -> LineTick
-    ensures { result ≡ line_ticked LineAnswer.Done 0 (tick_of s st (unasked_of count contact)) }
+    ensures { result ≡ line_ticked (Ok tt) 0 (tick_of s st (unasked_of count contact)) }
 {
-    silent_tick(LineAnswer::Done, s, st, count, contact)
+    silent_tick(Ok(()), s, st, count, contact)
 }
 
 // The tick is run with what the line asks for, and its reply is made from what it answers. A read asks for nothing, so that what it shows
@@ -68,12 +68,12 @@ pub fn line_tick(
     let outcome = answer.outcome;
     let due = reply_due(command, st, answer.reading, outcome);
     match replies::write_reply(reply, s.address, due) {
-        Wrote::Bytes(length) => return with_line(
+        Ok(length) => return with_line(
             told_of(command, outcome),
             length,
             t.answer,
             t.state,
         ),
-        Wrote::Short => return silent_tick(LineAnswer::ShortBuffer, s, st, count, contact),
+        Err(ShortBuffer) => return silent_tick(Err(LineRefusal::ShortBuffer), s, st, count, contact),
     }
 }

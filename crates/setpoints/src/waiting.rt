@@ -2,33 +2,33 @@
 ghost use Rattle.std.specs.Prelude.{◌≡◌};
 ghost use Rattle.outline.specs.Setpoints.{none_waiting, waiting_for, latest_of};
 
-use types::stages::{Setpoints, Waiting, Write};
+use types::stages::Setpoints;
 
 // At an opening, and in every stage 00.
-pub fn none_waiting() -> Waiting
+pub fn none_waiting() -> Option<Setpoints>
     ensures { result ≡ none_waiting }
 {
     Waiting {
-        write: Write::Nothing,
+        write: None,
     }
 }
 
 // A write replaces what waited before it.
-pub fn waiting_for(p: Setpoints) -> Waiting
+pub fn waiting_for(p: Setpoints) -> Option<Setpoints>
     ensures { result ≡ waiting_for p }
 {
     Waiting {
-        write: Write::Points(p),
+        write: Some(p),
     }
 }
 
 // The set that was written last: the waiting one if there is one, else the one in use. RS reads it, and it is in use once the stage is 00.
-pub fn latest(p: Setpoints, w: Waiting) -> Setpoints
+pub fn latest(p: Setpoints, w: Option<Setpoints>) -> Setpoints
     ensures { result ≡ latest_of p w }
 {
     let write = w.write;
     match write {
-        Write::Nothing => return p,
-        Write::Points(n) => return n,
+        None => return p,
+        Some(n) => return n,
     }
 }

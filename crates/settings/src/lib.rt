@@ -5,9 +5,7 @@ ghost use Rattle.std.specs.Prelude.{◌≡◌, true};
 ghost use Rattle.outline.specs.Settings.{settings_fit, mode_of, board_of, settings_of, open_of};
 
 use types::analog::Board;
-use types::settings::{
-    Batching, Calibration, Discharging, Given, Mode, Opening, Range, Settings, Steadiness, Tracking,
-};
+use types::settings::{Batching, Calibration, Discharging, Given, Mode, Range, Settings, Steadiness, Tracking};
 
 mod ranges;
 
@@ -121,11 +119,11 @@ fn made(g: Given) -> Settings
 }
 
 // The opening: 10, or the settings as accepted.
-pub fn open(g: Given) -> Opening
+pub fn open(g: Given) -> Option<Settings>
     ensures { result ≡ open_of g }
 {
     if !crate::ranges::settings_fit(g) {
-        return Opening::Refused;
+        return None;
     }
-    Opening::Accepted(made(g))
+    Some(made(g))
 }

@@ -12,7 +12,7 @@ use logs::ticks::request_tick;
 use std::io;
 use types::log::Line;
 use types::machine::{Answer, State};
-use types::settings::{Opening, Settings};
+use types::settings::Settings;
 
 mod input;
 
@@ -68,7 +68,7 @@ fn read_log(rt: &(impl Input + Print), s: Settings) -> io::Result<()> {
 
 fn main(rt: HostRuntime) -> io::Result<()> {
     match open(settings_a()) {
-        Opening::Accepted(s) => read_log(&rt, s),
-        Opening::Refused => Ok(()),
+        Some(s) => read_log(&rt, s),
+        None => Ok(()),
     }
 }

@@ -4,7 +4,7 @@
 ghost use Rattle.std.specs.Prelude.{◌≡◌, ◌-◌};
 ghost use Rattle.outline.specs.Totals.{clear_totals, bookable, booked_totals, booked_sequence, none_back, taken_back};
 
-use types::stages::{Batch, Sequence, SequenceError, Totals};
+use types::stages::{Sequence, SequenceError, Totals};
 
 // Total, in display digits.
 const TOTAL_LIMIT: u64 = 99_999_999;
@@ -19,7 +19,7 @@ pub fn clear_totals() -> Totals
     Totals {
         total: 0,
         count: 0,
-        back: Batch::Nothing,
+        back: None,
     }
 }
 
@@ -51,7 +51,7 @@ pub fn booked_totals(t: Totals, v: i64) -> Totals
     Totals {
         total: t.total + weight,
         count: t.count + 1,
-        back: Batch::Weight(weight),
+        back: Some(weight),
     }
 }
 
@@ -78,8 +78,8 @@ pub fn has_none_back(t: Totals) -> bool
 {
     let back = t.back;
     match back {
-        Batch::Nothing => true,
-        Batch::Weight(_) => false,
+        None => true,
+        Some(_) => false,
     }
 }
 
@@ -89,11 +89,11 @@ pub fn take_back(t: Totals) -> Totals
 {
     let back = t.back;
     match back {
-        Batch::Nothing => t,
-        Batch::Weight(v) => Totals {
+        None => t,
+        Some(v) => Totals {
             total: less(t.total, v),
             count: less(t.count as u64, 1) as u32,
-            back: Batch::Nothing,
+            back: None,
         },
     }
 }

@@ -16,10 +16,3 @@ pub struct Book {
     // the refill contact was closed at the last good tick
     pub contact: bool,
 }
-
-// What an accepted day close ended: the day as step 2 left it. Its closing raw is `last`.
-#[derive(Clone, Copy)]
-pub enum Closed {
-    Nothing,
-    Day(Book),
-}

@@ -3,12 +3,11 @@ use crate::machine::{Answer, State};
 use crate::requests::Refusal;
 use crate::stages::Setpoints;
 
-// Where the first CR LF of a buffer stands: nowhere, after more than 64 bytes, or after so many.
+// Why a buffer has no end of a line: no CR LF stands in it, or the first one stands after more than 64 bytes.
 #[derive(Clone, Copy)]
-pub enum LineEnd {
+pub enum NoEnd {
     Missing,
     Beyond,
-    At(usize),
 }
 
 // The second answer: no line, a long line, an empty line and another.
@@ -39,33 +38,23 @@ pub enum Word {
     Discharge,
 }
 
-// What a pair of letters is: a command that stands alone, SS, or neither.
+// What a pair of letters names: a command that stands alone, or SS.
 #[derive(Clone, Copy)]
 pub enum Letters {
     One(Word),
     Set,
-    Other,
 }
 
-// What a field of digits reads as.
+// What a receive buffer asks for.
 #[derive(Clone, Copy)]
-pub enum Digits {
-    Number(u32),
-    NotDigits,
-}
-
-// What the seven fields of SS read as.
-#[derive(Clone, Copy)]
-pub enum Fields {
-    Points(Setpoints),
-    Wrong,
-}
-
-// What a receive buffer asks for, or why it is refused.
-#[derive(Clone, Copy)]
-pub enum Command {
+pub enum Order {
     Do(Word),
     Set(Setpoints),
+}
+
+// Why a receive buffer asks for nothing.
+#[derive(Clone, Copy)]
+pub enum LineFault {
     NoLine,
     LongLine,
     OtherAddress,
@@ -95,11 +84,10 @@ pub enum Reply {
     Refused(u8),
 }
 
-// What a line is answered: 0, a refusal 1 to 9, or 11 to 14.
+// Why a line is refused: its request is, with 1 to 9, or the line itself, with 11 to 14.
 #[derive(Clone, Copy)]
-pub enum LineAnswer {
-    Done,
-    Refused(Refusal),
+pub enum LineRefusal {
+    Request(Refusal),
     Malformed,
     OtherAddress,
     Unknown,
@@ -110,7 +98,7 @@ pub enum LineAnswer {
 // of a tick without a request, whose own outcome is 0.
 #[derive(Clone, Copy)]
 pub struct LineTick {
-    pub told: LineAnswer,
+    pub told: Result<(), LineRefusal>,
     pub length: usize,
     pub answer: Answer,
     pub state: State,

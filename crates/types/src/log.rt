@@ -1,16 +1,15 @@
 // A log: a line for each tick, as the programs read it.
-// A whole number in a line and the place behind it, or no such number.
+
+// A whole number in a line, and the place behind it.
 #[derive(Clone, Copy)]
-pub enum LogNumber {
-    Number(i32, usize),
-    Unreadable,
+pub struct LogNumber {
+    pub value: i32,
+    pub end: usize,
 }
 
-// What a line says: its count and contact, and the place where its request begins. A line that can't be read says nothing, and has `read`
-// false.
+// What a line says: its count and contact, and the place where its request begins.
 #[derive(Clone, Copy)]
 pub struct LogLine {
-    pub read: bool,
     pub count: i32,
     pub contact: bool,
     pub request: usize,
@@ -30,5 +29,6 @@ pub struct Line {
     pub here: bool,
     // its LF is held too
     pub whole: bool,
-    pub said: LogLine,
+    // nothing where it can't be read
+    pub said: Option<LogLine>,
 }

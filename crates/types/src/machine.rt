@@ -1,8 +1,8 @@
 // The controller's state, a tick's input and its answer.
 use crate::analog::Analog;
-use crate::daybook::{Book, Closed};
-use crate::requests::{Outcome, Request};
-use crate::stages::{Gates, Judgement, Sequence, SequenceError, Setpoints, Stage, Totals, Waiting};
+use crate::daybook::Book;
+use crate::requests::{Refusal, Request};
+use crate::stages::{Gates, Judgement, Sequence, SequenceError, Setpoints, Stage, Totals};
 use crate::weight::{Panel, Stability, Weighing};
 
 #[derive(Clone, Copy)]
@@ -13,7 +13,8 @@ pub struct State {
     pub panel: Panel,
     // in use
     pub setpoints: Setpoints,
-    pub waiting: Waiting,
+    // Request A5: written while a batch or a discharge ran, and in use once its stage is 00 again
+    pub waiting: Option<Setpoints>,
     pub sequence: Sequence,
     pub totals: Totals,
 }
@@ -29,13 +30,14 @@ pub struct Input {
 // Step 4: how the request is settled, and the state after it.
 #[derive(Clone, Copy)]
 pub struct Settled {
-    pub outcome: Outcome,
+    pub outcome: Result<(), Refusal>,
     pub state: State,
     // step 6 is passed over
     pub held: bool,
     // an accepted zero
     pub keyed: bool,
-    pub closed: Closed,
+    // the day that an accepted day close ended, as step 2 left it: its closing raw is `last`
+    pub closed: Option<Book>,
 }
 
 #[derive(Clone, Copy)]
@@ -50,7 +52,7 @@ pub struct Reading {
 // Every output of a tick.
 #[derive(Clone, Copy)]
 pub struct Answer {
-    pub outcome: Outcome,
+    pub outcome: Result<(), Refusal>,
     pub reading: Reading,
     pub stage: Stage,
     pub gates: Gates,
@@ -60,7 +62,8 @@ pub struct Answer {
     pub near: bool,
     pub full: bool,
     pub analog: Analog,
-    pub closed: Closed,
+    // the day that an accepted day close ended, as step 2 left it: its closing raw is `last`
+    pub closed: Option<Book>,
 }
 
 #[derive(Clone, Copy)]
@@ -69,15 +72,14 @@ pub struct Ticked {
     pub answer: Answer,
 }
 
-// A block is run, or it is longer than 4,096 counts and refused.
+// Why a block is not run: it is longer than 4,096 counts.
 #[derive(Clone, Copy)]
-pub enum BlockAnswer {
-    Run,
+pub enum BlockRefusal {
     TooLong,
 }
 
 #[derive(Clone, Copy)]
 pub struct Blocked {
-    pub answer: BlockAnswer,
+    pub answer: Result<(), BlockRefusal>,
     pub state: State,
 }

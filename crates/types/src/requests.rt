@@ -31,9 +31,3 @@ pub enum Refusal {
     ContactClosed,
     LossInWeight,
 }
-
-#[derive(Clone, Copy)]
-pub enum Outcome {
-    Done,
-    Refused(Refusal),
-}

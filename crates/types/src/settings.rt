@@ -113,10 +113,3 @@ pub struct Settings {
     pub board: Board,
     pub scale: Scale,
 }
-
-// What an opening answers: 10 and no state, or the settings as accepted. The state that goes with these is the same for all.
-#[derive(Clone, Copy)]
-pub enum Opening {
-    Refused,
-    Accepted(Settings),
-}

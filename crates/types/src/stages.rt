@@ -12,19 +12,6 @@ pub struct Setpoints {
     pub near: u32,
 }
 
-// Setpoints that were written, or none.
-#[derive(Clone, Copy)]
-pub enum Write {
-    Nothing,
-    Points(Setpoints),
-}
-
-// Request A5: the setpoints that were written while a batch or a discharge ran. They come into use when its stage is 00 again.
-#[derive(Clone, Copy)]
-pub struct Waiting {
-    pub write: Write,
-}
-
 // Stages 00, 03 to 11 of a batch, and 14 to 16 of a discharge. A timed stage holds 0 on entering, and one more after each tick that it
 // stays; the paper's number of the stage says nothing of it.
 #[derive(Clone, Copy)]
@@ -100,13 +87,6 @@ pub struct Facts {
     pub empty: bool,
 }
 
-// What a timed stage does at a tick: it is over, or it stays with so many ticks behind it.
-#[derive(Clone, Copy)]
-pub enum Timing {
-    Over,
-    Still(u16),
-}
-
 // What a stage says at a tick.
 #[derive(Clone, Copy)]
 pub enum Move {
@@ -124,17 +104,10 @@ pub struct Advanced {
     pub finished: bool,
 }
 
-// The batch that undo would take back.
-#[derive(Clone, Copy)]
-pub enum Batch {
-    Nothing,
-    Weight(u64),
-}
-
-// Total in display digits, count of batches, and the batch that can be taken back.
+// Total in display digits, count of batches, and the weight of the batch that undo would take back.
 #[derive(Clone, Copy)]
 pub struct Totals {
     pub total: u64,
     pub count: u32,
-    pub back: Batch,
+    pub back: Option<u64>,
 }

@@ -1,12 +1,5 @@
 // From count to weight, and the zero that it is taken from.
 
-// What a count makes: a bad tick, or raw in tenths of a division.
-#[derive(Clone, Copy)]
-pub enum Raw {
-    Bad,
-    Tenths(i32),
-}
-
 // Whether the tick before was good, and the run of steady ticks. The raw of that tick is the day book's last good raw.
 #[derive(Clone, Copy)]
 pub struct Stability {
@@ -31,7 +24,7 @@ pub enum Display {
     Net,
 }
 
-// What the front panel shows: an enum in a struct of its own, since a field that holds an enum can't be assigned.
+// What the front panel shows.
 #[derive(Clone, Copy)]
 pub struct Panel {
     pub display: Display,

@@ -1,12 +1,12 @@
 // From raw to weight. Raw and gross fine are in tenths, gross, net and tare in display digits.
 #![tactic(auto)]
 
-ghost use Rattle.std.specs.Prelude.{◌≡◌};
+ghost use Rattle.std.specs.Prelude.{◌≡◌, Some};
 ghost use Rattle.outline.specs.Weight.{overload_of, kept_of, weigh_of, displayed_of, fit_of};
 
 use crate::stability::is_stable;
 use types::settings::{Range, Settings};
-use types::weight::{Display, Raw, Stability, Weighing, Weights};
+use types::weight::{Display, Stability, Weighing, Weights};
 
 pub mod raw;
 pub mod stability;
@@ -37,7 +37,7 @@ fn kept(x: i64) -> i32
 
 // The weights of a good tick.
 fn weigh_good(s: Settings, q: Stability, w: Weighing, raw: i32, contact: bool) -> Weights
-    ensures { result ≡ weigh_of s q w (Raw.Tenths raw) contact }
+    ensures { result ≡ weigh_of s q w (Some raw) contact }
 {
     let fine = whole::difference(raw, w.zero);
     let divisions = whole::nearest(fine, 10);
@@ -61,11 +61,11 @@ fn weigh_good(s: Settings, q: Stability, w: Weighing, raw: i32, contact: bool) -
 }
 
 // What a tick weighs.
-pub fn weigh(s: Settings, q: Stability, w: Weighing, raw: Raw, contact: bool) -> Weights
+pub fn weigh(s: Settings, q: Stability, w: Weighing, raw: Option<i32>, contact: bool) -> Weights
     ensures { result ≡ weigh_of s q w raw contact }
 {
     match raw {
-        Raw::Bad => {
+        None => {
             let rule = s.steadiness;
             let stable = is_stable(rule, q);
             Weights {
@@ -80,7 +80,7 @@ pub fn weigh(s: Settings, q: Stability, w: Weighing, raw: Raw, contact: bool) ->
                 stable,
             }
         }
-        Raw::Tenths(t) => weigh_good(s, q, w, t, contact),
+        Some(t) => weigh_good(s, q, w, t, contact),
     }
 }
 

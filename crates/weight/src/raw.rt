@@ -3,7 +3,6 @@ ghost use Rattle.std.specs.Prelude.{◌≡◌};
 ghost use Rattle.outline.specs.Weight.{good_count, tenths_of, raw_of};
 
 use types::settings::Calibration;
-use types::weight::Raw;
 
 // A count beyond it makes a bad tick.
 const COUNT_LIMIT: i32 = 2_000_000;
@@ -27,16 +26,16 @@ fn tenths(cal: Calibration, count: i32) -> i64
 }
 
 // What a count makes.
-pub fn raw_of(cal: Calibration, count: i32) -> Raw
+pub fn raw_of(cal: Calibration, count: i32) -> Option<i32>
     ensures { result ≡ raw_of cal count }
 {
     if !is_good(count) {
-        return Raw::Bad;
+        return None;
     }
     let raw = tenths(cal, count);
     if whole::magnitude(raw) <= RAW_LIMIT {
-        Raw::Tenths(raw as i32)
+        Some(raw as i32)
     } else {
-        Raw::Bad
+        None
     }
 }

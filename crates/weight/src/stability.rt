@@ -1,9 +1,9 @@
 // Stability: its own small state, and its step.
-ghost use Rattle.std.specs.Prelude.{◌≡◌};
+ghost use Rattle.std.specs.Prelude.{◌≡◌, Some};
 ghost use Rattle.outline.specs.Weight.{stable_of, steadied_of};
 
 use types::settings::Steadiness;
-use types::weight::{Raw, Stability};
+use types::weight::Stability;
 
 // Stable when the run is k.
 pub(crate) fn is_stable(rule: Steadiness, q: Stability) -> bool
@@ -14,7 +14,7 @@ pub(crate) fn is_stable(rule: Steadiness, q: Stability) -> bool
 
 // The run after a good tick.
 fn run_after(rule: Steadiness, q: Stability, last: i32, raw: i32) -> u16
-    ensures { result ≡ (steadied_of rule q last (Raw.Tenths raw)).run }
+    ensures { result ≡ (steadied_of rule q last (Some raw)).run }
 {
     let change = whole::magnitude(whole::difference(raw, last));
     if q.good {
@@ -29,15 +29,15 @@ fn run_after(rule: Steadiness, q: Stability, last: i32, raw: i32) -> u16
 }
 
 // The step; `last` is the last good raw before this tick.
-pub fn steadied(rule: Steadiness, q: Stability, last: i32, raw: Raw) -> Stability
+pub fn steadied(rule: Steadiness, q: Stability, last: i32, raw: Option<i32>) -> Stability
     ensures { result ≡ steadied_of rule q last raw }
 {
     match raw {
-        Raw::Bad => Stability {
+        None => Stability {
             good: false,
             run: 0,
         },
-        Raw::Tenths(t) => Stability {
+        Some(t) => Stability {
             good: true,
             run: run_after(rule, q, last, t),
         },

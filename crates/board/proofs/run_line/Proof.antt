@@ -1,14 +1,15 @@
 -- No room for the answer, or the steps, one after the other, with the line's request where its reply fits.
+use Rattle.std.specs.Prelude.{Option}
 use mathlib.Core.Path.{refl, ap, ◌∙◌}
 use lib.ListN.{length}
 use mir.Facts.{to_z-of_z}
 use borrow.Author.Tests.{lt-leb}
+use Rattle.types.specs.declared.daybook.Book.{Book}
 use Rattle.types.specs.declared.machine.State.{State}
 use Rattle.types.specs.declared.machine.Input.{Input}
 use Rattle.outline.specs.Numbers.{told_number}
 use Rattle.images.specs.Holds.{Holds}
 use Rattle.board.specs.AnswerImage.{answer_length}
-use Rattle.types.specs.declared.daybook.Closed.{Closed}
 use Rattle.board.specs.InPlace.{closed_put}
 use Rattle.board.specs.Board.{input_of}
 use Rattle.board.proofs.Cases.{is_room}
@@ -35,7 +36,7 @@ fits c st h =
     let i : Input = input_of a.count a.contact c.request_of-request.result in
     let r = leaves a.s st i c.enter-x.result c.ruled-outcome.result c.granted-done.result c.again-x.result c.told_number-n.result c.in-Bytes.length
     a.answer.now c.step.new.state c.settle.new.answer c.answer.new.answer
-    (e.1 st h) (c.ruled-outcome.ensures _ h1) c.granted-done.ensures (c.again-x.ensures _ h2) h4 (c.settle.ensures.1 _ h1 ∙ ap (λ (d : Closed). closed_put d a.answer.now) (batch_closed _ _ _)) (c.answer.ensures _ h4) in
+    (e.1 st h) (c.ruled-outcome.ensures _ h1) c.granted-done.ensures (c.again-x.ensures _ h2) h4 (c.settle.ensures.1 _ h1 ∙ ap (λ (d : Option Book). closed_put d a.answer.now) (batch_closed _ _ _)) (c.answer.ensures _ h4) in
     lined a.s st a.count a.contact a.receive.now a.reply.now c.command_of-command.result c.request_of-request.result c.enter-x.result c.ruled-outcome.result c.reply.result c.reply.new.reply
     c.command_of-command.ensures c.request_of-request.ensures (e.1 st h) (c.ruled-outcome.ensures _ h1) (c.reply.ensures.0 _ h1) (c.reply.ensures.1 _ h1)
     c.told_number-n.result a.answer.now c.step.new.state c.answer.new.answer

@@ -1,16 +1,17 @@
 -- No room for the answer, or the steps, one after the other.
+use Rattle.std.specs.Prelude.{Option}
 use mathlib.Core.Path.{◌≡◌, sym, ap, ◌∙◌}
 use mathlib.Core.Bool.{cond}
 use lib.ListN.{length}
 use mir.Facts.{to_z-of_z}
 use borrow.Author.Tests.{lt-leb}
+use Rattle.types.specs.declared.daybook.Book.{Book}
 use Rattle.types.specs.declared.machine.State.{State}
 use Rattle.types.specs.declared.machine.Input.{Input}
 use Rattle.outline.specs.Numbers.{outcome_number}
 use Rattle.outline.specs.Tick.{tick_of}
 use Rattle.images.specs.Holds.{Holds}
 use Rattle.board.specs.AnswerImage.{answer_length, answer_buffer}
-use Rattle.types.specs.declared.daybook.Closed.{Closed}
 use Rattle.board.specs.InPlace.{closed_put}
 use Rattle.board.specs.Board.{input_of, told_of}
 use Rattle.board.proofs.Cases.{is_room}
@@ -37,7 +38,7 @@ done c st h =
     let h4 = held_on _ _ _ c.is_held.ensures (c.step.ensures _ h3) in
     leaves (start c).args.s st (asked c) c.enter-x.result c.ruled-outcome.result c.granted-done.result c.again-x.result c.told_by-told.result 0
     (start c).args.answer.now c.step.new.state c.settle.new.answer c.answer.new.answer
-    (e.1 st h) (c.ruled-outcome.ensures _ h1) c.granted-done.ensures (c.again-x.ensures _ h2) h4 (c.settle.ensures.1 _ h1 ∙ ap (λ (d : Closed). closed_put d (start c).args.answer.now) (batch_closed _ _ _)) (c.answer.ensures _ h4)
+    (e.1 st h) (c.ruled-outcome.ensures _ h1) c.granted-done.ensures (c.again-x.ensures _ h2) h4 (c.settle.ensures.1 _ h1 ∙ ap (λ (d : Option Book). closed_put d (start c).args.answer.now) (batch_closed _ _ _)) (c.answer.ensures _ h4)
 
 told : (c : tie.After-slice_known-9-1) (st : State) → Holds (start c).args.state.now st
     → c.told_by-told.result ≡ told_of (start c).args.known (tick_of (start c).args.s st (asked c))

@@ -1,10 +1,10 @@
 -- Steps 1 to 5 are told call by call; where the ways of step 4 meet, and those of step 6, each is a case of its definition.
+use Rattle.std.specs.Prelude.{Ok}
 use borrow.Author.Rules.{rules}
 use mathlib.Core.Path.{◌≡◌, refl, ap, sym, ◌∙◌}
 use mir.Syntax.{w32, w64}
 use mir.Val.{SFits}
 use mir.Facts.{to_z-of_z}
-use Rattle.types.specs.declared.requests.Outcome.TheVariants as outcome
 use Rattle.whole.specs.Bits.{got, be}
 use Rattle.whole.specs.Machine.{sfits_of}
 use Rattle.types.specs.declared.machine.State.{State}
@@ -175,7 +175,7 @@ left : (m : tie.Joined-done) →
     let k = w.before in
     let q = k.before in
     let a = q.args in
-    left_of outcome.Done m.match-done.st m.match-done.held m.match-done.keyed m.match-done.closed
+    left_of (Ok tt) m.match-done.st m.match-done.held m.match-done.keyed m.match-done.closed
     ≡ granted_of (parts_of a.st k.book_tick-st.result q.steadied-st.result a.st.weighing) w.weigh-x.result g.granted-done.result
 left m =
     let x = m.weigh-x.result in

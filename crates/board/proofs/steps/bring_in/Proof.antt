@@ -1,6 +1,6 @@
 -- By what waits in the state that the buffer holds: nothing, or setpoints.
+use Rattle.std.specs.Prelude.{Option}
 use mathlib.Core.Path.{sym, ap, ◌∙◌}
-use Rattle.types.specs.declared.stages.Waiting.{Waiting}
 use Rattle.board.proofs.Held.{read_waiting, held_as, came_none, came_points}
 use borrow.Author.Rules.{rules}
 use Rattle.board.proofs.steps.bring_in.Statement.{statement}
@@ -18,7 +18,7 @@ shape_of-state-in-Nothing c = search rules
 returns-in-Nothing : tie.Need-returns-in-Nothing
 returns-in-Nothing c st h =
     let w = read_waiting c.waiting_at-waiting.ensures h in
-    held_as (came_none st (ap (λ (x : Waiting). x.write) (sym w) ∙ c.in-Nothing.is)) h
+    held_as (came_none st ((sym w) ∙ c.in-Nothing.is)) h
 
 enum_known-write : tie.Need-enum_known-write
 enum_known-write c = search rules
@@ -35,7 +35,7 @@ shape_of-state-in-Points c = search rules
 returns-in-Points : tie.Need-returns-in-Points
 returns-in-Points c st h =
     let w = read_waiting c.waiting_at-waiting.ensures h in
-    held_as (came_points st _ (ap (λ (x : Waiting). x.write) (sym w) ∙ c.in-Points.is))
+    held_as (came_points st _ ((sym w) ∙ c.in-Points.is))
     (c.clear_waiting.ensures.0 _ (c.put_setpoints.ensures.0 st h))
 
 pub bring_in_spec : {M : Type 1} → statement M

@@ -1,8 +1,8 @@
 -- The day that the buffer holds, put into the answer, and the next one begun.
+use Rattle.std.specs.Prelude.{Some}
 use mathlib.Core.Path.{ap, ◌∙◌}
 use Rattle.types.specs.declared.machine.State.{State}
 use Rattle.types.specs.declared.daybook.Book.{Book}
-use Rattle.types.specs.declared.daybook.Closed.TheVariants as closed
 use Rattle.outline.specs.DayBook.{closed_of}
 use Rattle.outline.specs.Parts.{with_book}
 use Rattle.board.specs.InPlace.{closed_put}
@@ -32,7 +32,7 @@ shape_of-answer c = search rules
 returns : tie.Need-returns
 returns c = (
   (λ st h. held_as (λ i. with_book st ((c.closed_book.ensures ∙ ap closed_of (read_part (λ (t : State). t.book) c.book_at-day.ensures h)) i)) (c.put_book.ensures.0 st h)),
-  (λ st h. c.put_day.ensures ∙ ap (λ (b : Book). closed_put (closed.Day b) c.args.answer.now) (read_part (λ (t : State). t.book) c.book_at-day.ensures h)),
+  (λ st h. c.put_day.ensures ∙ ap (λ (b : Book). closed_put (Some b) c.args.answer.now) (read_part (λ (t : State). t.book) c.book_at-day.ensures h)),
 )
 
 pub close_spec : {M : Type 1} → statement M

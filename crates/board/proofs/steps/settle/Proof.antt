@@ -1,4 +1,5 @@
 -- Request by request: the part that it changes, and the day that it closes; those that `settle_batch` has change nothing here.
+use Rattle.std.specs.Prelude.{None, Some, ℕ}
 use mathlib.Core.Path.{refl, ap, ◌∙◌}
 use mathlib.Core.List.{List}
 use Prim.Native.Nat.{ℕ}
@@ -6,7 +7,6 @@ use mir.Syntax.{w32}
 use mir.Val.{SFits}
 use mir.Facts.{to_z-of_z}
 use Rattle.whole.specs.Machine.{sfits_of}
-use Rattle.types.specs.declared.daybook.Closed.TheVariants as closed
 use Rattle.types.specs.declared.machine.State.{State}
 use Rattle.types.specs.declared.machine.Settled.{Settled}
 use Rattle.outline.proofs.Steps.{left_nothing, left_zero, left_tare, left_tare_clear, left_total_clear, left_undo, left_gross, left_net, left_close}
@@ -261,7 +261,7 @@ returns-in-DayClose c =
     let told = ap beside_batch c.in-DayClose.is in
     let x = start.args.x in (
       (λ st h. held_as (ap leaving (left_close st x _ told _ refl)) (c.close.ensures.0 st h)),
-      (λ st h. c.close.ensures.1 st h ∙ ap (closed_put (closed.Day st.book)) c.put_none.ensures ∙ over_none closed.Nothing (closed.Day st.book) start.args.answer.now ∙ ap (closing start.args.answer.now) (left_close st x _ told _ refl)),
+      (λ st h. c.close.ensures.1 st h ∙ ap (closed_put (Some st.book)) c.put_none.ensures ∙ over_none None (Some st.book) start.args.answer.now ∙ ap (closing start.args.answer.now) (left_close st x _ told _ refl)),
     )
 
 enum_told-in-Discharge : tie.Need-enum_told-in-Discharge

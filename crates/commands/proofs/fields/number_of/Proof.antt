@@ -1,4 +1,5 @@
 -- Reading on from digit i with the number so far gives what reading from the start gives.
+use Rattle.std.specs.Prelude.{None, ℕ}
 use Prim.Native.Nat.{ℕ, ◌+◌, ◌-◌, ◌*◌, ◌^◌, ◌≤◌, ◌<◌, zero-le}
 use mathlib.Core.Path.{◌≡◌, refl, sym, ◌∙◌}
 use mathlib.Core.List.{List}
@@ -7,7 +8,6 @@ use native.Mathlib.Omega.{arith}
 use lib.Dec.{lit<}
 use lib.ListN.{length, drop, get_or}
 use Rattle.outline.specs.Lines.{number_from}
-use Rattle.types.specs.declared.lines.Digits.TheVariants.{NotDigits}
 use Rattle.commands.specs.DigitLaws.{digit_range}
 use Rattle.commands.proofs.FieldLaws.{more, below, step, past}
 use Rattle.commands.proofs.fields.number_of.Statement.{statement}
@@ -30,7 +30,7 @@ module _ (c : tie.After-is_digit invariant-loop-i decreases-loop-i) where
   abbrev B : ℕ
   B = get_or S L.loop-i.i 0
 
-  went : number_from 0 S ≡ cond c.is_digit.result (number_from (L.loop-i.v * 10 + (B - 48)) (drop (L.loop-i.i + 1) S)) NotDigits
+  went : number_from 0 S ≡ cond c.is_digit.result (number_from (L.loop-i.v * 10 + (B - 48)) (drop (L.loop-i.i + 1) S)) None
   went = sym L.loop-i.invariant.2 ∙ step S L.loop-i.v L.loop-i.i _ c.loop-i-test.true c.is_digit.ensures
 
   range : c.is_digit.result ≡ true → (48 ≤ B) × (B ≤ 57)

@@ -1,4 +1,5 @@
 -- A pair that equals a command's letters computes; one that equals none fails each test of the definition.
+use Rattle.std.specs.Prelude.{Option}
 use Prim.Native.Nat.{ℕ}
 use mathlib.Core.Path.{◌≡◌, refl, sym, ap, ◌∙◌}
 use mathlib.Core.Bool.{Bool, cond}
@@ -119,11 +120,11 @@ unfolding letters_of
 returns-then-pair-eq-SET_LETTERS c = sym (ap named c.if-pair-eq-SET_LETTERS.true)
 
 -- a test that fails is passed over
-past : (k a : ℕ) (x y z : Letters) → (k ≡ a → ⊥) → z ≡ y → z ≡ cond (eqb k a) x y
+past : (k a : ℕ) (x y z : Option Letters) → (k ≡ a → ⊥) → z ≡ y → z ≡ cond (eqb k a) x y
 past k a x y z h e = e ∙ sym (ap (λ (t : Bool). cond t x y) (ne_eqb k a h))
 
 -- the letters of a command, as the code has them
-past_word : (k b a : ℕ) (x y z : Letters) → (k ≡ b → ⊥) → b ≡ a → z ≡ y → z ≡ cond (eqb k a) x y
+past_word : (k b a : ℕ) (x y z : Option Letters) → (k ≡ b → ⊥) → b ≡ a → z ≡ y → z ≡ cond (eqb k a) x y
 past_word k b a x y z h e = past k a x y z (λ p. h (p ∙ sym e))
 
 returns : tie.Need-returns

@@ -1,10 +1,11 @@
 -- Part by part: a day book, totals, a weighing or what waits that is not possible ends the test; after them the rest is asked.
+use Rattle.std.specs.Prelude.{Option}
 use mathlib.Core.Path.{◌≡◌, sym, ap, ◌∙◌}
 use mathlib.Core.Bool.{true}
 use lib.ListN.{length}
 use borrow.Author.Rules.{rules}
+use Rattle.types.specs.declared.stages.Setpoints.{Setpoints}
 use Rattle.types.specs.declared.machine.State.{State}
-use Rattle.types.specs.declared.stages.Waiting.{Waiting}
 use Rattle.outline.specs.Kinds.{is_write}
 use Rattle.outline.specs.Ranges.{write_fits}
 use Rattle.outline.specs.Settings.{settings_of}
@@ -47,10 +48,10 @@ weighing c f =
 waiting : (c : tie.After-write_fits) →
     let s = c.args in
     let g = settings_of (given_at s.g.now) in
-    is_image (length s.s.now) ≡ true → c.write_fits.result ≡ write_fits g.batching.mode (state_at s.s.now).waiting.write
+    is_image (length s.s.now) ≡ true → c.write_fits.result ≡ write_fits g.batching.mode (state_at s.s.now).waiting
 waiting c f =
     let g = settings_of (given_at c.args.g.now) in
-    c.write_fits.ensures ∙ ap (λ (w : Waiting). write_fits g.batching.mode w.write) (waiting_here _ f c.waiting_at-waiting.ensures)
+    c.write_fits.ensures ∙ ap (λ (w : Option Setpoints). write_fits g.batching.mode w) (waiting_here _ f c.waiting_at-waiting.ensures)
 
 returns-then-g-ne-GIVEN_LENGTH : tie.Need-returns-then-g-ne-GIVEN_LENGTH
 returns-then-g-ne-GIVEN_LENGTH c = sym (possible_no_settings _ _ c.if-g-ne-GIVEN_LENGTH.true)
@@ -139,7 +140,7 @@ returns c =
     let x = part_here _ f (λ (t : State). t.sequence) c.sequence_at-sequence.ensures in
     let g = settings_of (given_at s.g.now) in
     c.is_rest.ensures
-    ∙ (λ i. rest_possible g (q i) (p i) (x i) (at i).begun (scales i).counter ((v.has_points-waits.ensures ∙ ap (λ (w : Waiting). is_write w.write) waits) i))
+    ∙ (λ i. rest_possible g (q i) (p i) (x i) (at i).begun (scales i).counter ((v.has_points-waits.ensures ∙ ap (λ (w : Option Setpoints). is_write w) waits) i))
     ∙ rest g st
     (sym (book e3.before f) ∙ e3.if-not-is_book.false)
     (sym (totals e4.before f) ∙ e4.if-not-is_totals.false)
