@@ -49,7 +49,7 @@ fn is_fitted(board: Board) -> bool
     ensures { result ≡ fitted board }
 {
     match board {
-        Board::None => false,
+        None => false,
         Board::Current => true,
         Board::Voltage => true,
     }
@@ -62,16 +62,16 @@ pub fn analog_value(board: Board, scale: Scale, displayed: i32, fit: bool) -> An
     ensures values { analog_values result ≡ analog_values_due board scale displayed fit }
 {
     if !fit {
-        return Analog::None;
+        return None;
     }
     if !is_fitted(board) {
-        return Analog::None;
+        return None;
     }
     let w = displayed as f64;
     let d = scale.span;
     let x = clipped(w - scale.low, d);
     match board {
-        Board::None => Analog::None,
+        None => None,
         Board::Current => Analog::Current(16.0 * x / d + 4.0),
         Board::Voltage => Analog::Voltage(10.0 * x / d + 0.0),
     }

@@ -9,13 +9,13 @@ use types::stages::{Judgement, Sequence, SequenceError, Stage};
 
 // A sequence that enters the stage, with no error and no judgement.
 fn fresh(stage: Stage) -> Sequence
-    ensures { result ≡ (record { stage = stage; clock = 0; error = SequenceError.None; judgement = Judgement.None }) }
+    ensures { result ≡ (record { stage = stage; clock = 0; error = None; judgement = None }) }
 {
     Sequence {
         stage,
         clock: 0,
-        error: SequenceError::None,
-        judgement: Judgement::None,
+        error: None,
+        judgement: None,
     }
 }
 
@@ -37,7 +37,7 @@ pub fn start_sequence() -> Sequence
 pub fn discharge_sequence(q: Sequence) -> Sequence
     ensures { result ≡ discharge_sequence q }
 {
-    let error = SequenceError::None;
+    let error = None;
     let kept = q.judgement;
     Sequence {
         stage: Stage::DischargeStart(0),

@@ -78,7 +78,7 @@ fn is_refused(outcome: Result<(), Refusal>) -> bool {
 
 fn is_high(a: Analog) -> bool {
     match a {
-        Analog::None => false,
+        None => false,
         Analog::Current(x) => 5.0 < x,
         Analog::Voltage(x) => 5.0 < x,
     }

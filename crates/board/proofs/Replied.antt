@@ -1,5 +1,5 @@
 -- The reply that is due to a line, made before anything of it is done, and the tick with a line of both. Assumes nothing.
-use Rattle.std.specs.Prelude.{Result, Ok, ℤ, ℕ, Err}
+use Rattle.std.specs.Prelude.{Result, Ok, ℤ, ℕ, Err, Option, Some}
 use Prim.Native.Nat.{ℕ}
 use mathlib.Core.Path.{◌≡◌, refl, ap, ◌∙◌}
 use mathlib.Core.Bool.{Bool}
@@ -45,9 +45,9 @@ use Rattle.board.proofs.InOrder.{Ran}
 module _ (a b : State) (x : Reading) (o : Result (Unit {0}) Refusal) (ep : a.panel ≡ b.panel) (et : a.totals ≡ b.totals) (en : a.setpoints ≡ b.setpoints)
     (ew : a.waiting ≡ b.waiting) where
   word_shown : (w : Word) → word_reply w a x o ≡ word_reply w b x o
-  word_shown word.ReadWeight = ap (λ (p : Panel). reply.Weight (shown_of p.display x)) ep
-  word_shown word.ReadTotal = ap (λ (t : Totals). reply.Total t.total t.count) et
-  word_shown word.ReadSetpoints = λ i. reply.Points (latest_of (en i) (ew i))
+  word_shown word.ReadWeight = ap (λ (p : Panel). Some (reply.Weight (shown_of p.display x))) ep
+  word_shown word.ReadTotal = ap (λ (t : Totals). Some (reply.Total t.total t.count)) et
+  word_shown word.ReadSetpoints = λ i. Some (reply.Points (latest_of (en i) (ew i)))
   word_shown word.Zero = refl
   word_shown word.Tare = refl
   word_shown word.TareClear = refl
@@ -73,7 +73,7 @@ module _ (a b : State) (x : Reading) (o : Result (Unit {0}) Refusal) (ep : a.pan
 -- ---- it shows a weight to a read alone, which asks for nothing
 module _ (st : State) (x y : Reading) (o : Result (Unit {0}) Refusal) where
   word_weighed : (w : Word) → (word_request w ≡ request.Nothing → x ≡ y) → word_reply w st x o ≡ word_reply w st y o
-  word_weighed word.ReadWeight e = ap (λ (r : Reading). reply.Weight (shown_of st.panel.display r)) (e refl)
+  word_weighed word.ReadWeight e = ap (λ (r : Reading). Some (reply.Weight (shown_of st.panel.display r))) (e refl)
   word_weighed word.ReadTotal e = refl
   word_weighed word.ReadSetpoints e = refl
   word_weighed word.Zero e = refl
@@ -135,14 +135,14 @@ module _ (s : Settings) (st : State) (count : ℤ) (contact : Bool) (receive buf
 
     module _ (ew : wrote ≡ wrote_of (reply_text s.address (reply_due c entered (reading_of x) o)) buffer)
         (ea : after ≡ written_of (reply_text s.address (reply_due c entered (reading_of x) o)) buffer) where
-      abbrev due : Reply
+      abbrev due : Option Reply
       due = reply_due c st tick.answer.reading tick.answer.outcome
 
       written : wrote ≡ wrote_of (reply_text s.address due) buffer
-      written = ew ∙ ap (λ (r : Reply). wrote_of (reply_text s.address r) buffer) same-due
+      written = ew ∙ ap (λ (r : Option Reply). wrote_of (reply_text s.address r) buffer) same-due
 
       bytes : after ≡ written_of (reply_text s.address due) buffer
-      bytes = ea ∙ ap (λ (r : Reply). written_of (reply_text s.address r) buffer) same-due
+      bytes = ea ∙ ap (λ (r : Option Reply). written_of (reply_text s.address r) buffer) same-due
 
       module _ (number : ℕ) (blank image answer : List ℕ) where
         pub lined : (n : ℕ) → wrote ≡ Bytes n → number ≡ told_number (told_of c o) → Ran s st asked o number n blank image answer

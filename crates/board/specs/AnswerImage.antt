@@ -75,10 +75,10 @@ day_numbers b = coded w32 b.opening ∷ coded w32 b.last ∷ coded w64 b.refille
 unfoldable pub float_bits : Float → ℕ
 float_bits x = cond (ne x x) 0 (to_bits binary64 x)
 
-unfoldable pub analog_bits : Analog → ℕ
-analog_bits analog.None = 0
-analog_bits (analog.Current mA) = float_bits mA
-analog_bits (analog.Voltage volts) = float_bits volts
+unfoldable pub analog_bits : Option Analog → ℕ
+analog_bits None = 0
+analog_bits (Some (analog.Current mA)) = float_bits mA
+analog_bits (Some (analog.Voltage volts)) = float_bits volts
 
 abbrev pub value_rows : List Place
 value_rows = row 56 8 ∷ []

@@ -104,7 +104,7 @@ fn analog_bits(a: Analog) -> u64
     ensures { result ≡ analog_bits a }
 {
     match a {
-        Analog::None => 0,
+        None => 0,
         Analog::Current(x) => float_bits(x),
         Analog::Voltage(x) => float_bits(x),
     }

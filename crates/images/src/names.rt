@@ -79,7 +79,7 @@ pub(crate) fn error_of(n: u8) -> SequenceError
         10 => return SequenceError::NotBooked,
         7 => return SequenceError::DischargeStopped,
         8 => return SequenceError::DischargeTime,
-        _ => return SequenceError::None,
+        _ => return None,
     }
 }
 
@@ -90,7 +90,7 @@ pub(crate) fn judgement_of(n: u8) -> Judgement
         1 => return Judgement::Ok,
         2 => return Judgement::Over,
         3 => return Judgement::Under,
-        _ => return Judgement::None,
+        _ => return None,
     }
 }
 

@@ -217,8 +217,8 @@ pub fn sequence_at(s: &[u8]) -> Sequence
         return Sequence {
             stage: Stage::Idle,
             clock: 0,
-            error: SequenceError::None,
-            judgement: Judgement::None,
+            error: None,
+            judgement: None,
         };
     }
     let stage = stage_of(places::u8_at(s, 88), places::u16_at(s, 90));

@@ -85,7 +85,7 @@ pub fn error_number(e: SequenceError) -> u8
     ensures { result ≡ error_number e }
 {
     match e {
-        SequenceError::None => 0,
+        None => 0,
         SequenceError::NoFinal => 1,
         SequenceError::Reached => 2,
         SequenceError::Stopped => 4,
@@ -102,7 +102,7 @@ pub fn judgement_number(j: Judgement) -> u8
     ensures { result ≡ judgement_number j }
 {
     match j {
-        Judgement::None => 0,
+        None => 0,
         Judgement::Ok => 1,
         Judgement::Over => 2,
         Judgement::Under => 3,
@@ -114,7 +114,7 @@ pub fn analog_number(a: Analog) -> u8
     ensures { result ≡ analog_number a }
 {
     match a {
-        Analog::None => 0,
+        None => 0,
         Analog::Current(_) => 1,
         Analog::Voltage(_) => 2,
     }

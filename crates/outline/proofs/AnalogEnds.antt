@@ -264,10 +264,10 @@ module _ (low high w : ℤ) (ends : Ends low high) (hw : nat_abs w ≤ display_l
   unfolding analog_of
   beyond_ends =
       record {
-        four = λ h. ap analog.Current (low_current h);
-        twenty = λ h. ap analog.Current (high_current h);
-        nought = λ h. ap analog.Voltage (low_voltage h ∙ plus_zero_lem);
-        ten = λ h. ap analog.Voltage (high_voltage h);
+        four = λ h. ap (λ x. Some (analog.Current x)) (low_current h);
+        twenty = λ h. ap (λ x. Some (analog.Current x)) (high_current h);
+        nought = λ h. ap (λ x. Some (analog.Voltage x)) (low_voltage h ∙ plus_zero_lem);
+        ten = λ h. ap (λ x. Some (analog.Voltage x)) (high_voltage h);
       }
 
 -- ---- at the ends: an end is past itself

@@ -1,5 +1,5 @@
 -- The number of each answer is the one that the outline's tables and sentences give. The proofs of the calls cite these laws.
-use Rattle.std.specs.Prelude.{Result, Ok, Err, ℤ, ℕ}
+use Rattle.std.specs.Prelude.{Result, Ok, Err, ℤ, ℕ, Option, None, Some}
 use Prim.Native.Nat.{ℕ, suc, ◌+◌}
 use native.Mathlib.Omega.{arith}
 use mathlib.Core.Path.{◌≡◌, refl, ap, ◌∙◌}
@@ -194,16 +194,16 @@ module _ (s : Settings) (st : State) (count : ℤ) (contact : Bool) (receive buf
   line_number = rw (← has_line_lem receive) (by_order _ _ _ refl refl refl)
 
 -- ---- an analog answer
-pub analog_number_lem : (b : Board) (scale : Scale) (w : ℤ) (fit : Bool) → analog_number (analog_of b scale w fit) ≡ analog_due b fit
+pub analog_number_lem : (b : Option Board) (scale : Scale) (w : ℤ) (fit : Bool) → analog_number (analog_of b scale w fit) ≡ analog_due b fit
 unfolding analog_of analog_due
 analog_number_lem b scale w false = refl
-analog_number_lem board.None scale w true = refl
-analog_number_lem board.Current scale w true = refl
-analog_number_lem board.Voltage scale w true = refl
+analog_number_lem None scale w true = refl
+analog_number_lem (Some board.Current) scale w true = refl
+analog_number_lem (Some board.Voltage) scale w true = refl
 
-pub analog_values_lem : (b : Board) (scale : Scale) (w : ℤ) (fit : Bool) → analog_values (analog_of b scale w fit) ≡ analog_values_due b scale w fit
+pub analog_values_lem : (b : Option Board) (scale : Scale) (w : ℤ) (fit : Bool) → analog_values (analog_of b scale w fit) ≡ analog_values_due b scale w fit
 unfolding analog_of analog_values_due
 analog_values_lem b scale w false = refl
-analog_values_lem board.None scale w true = refl
-analog_values_lem board.Current scale w true = refl
-analog_values_lem board.Voltage scale w true = refl
+analog_values_lem None scale w true = refl
+analog_values_lem (Some board.Current) scale w true = refl
+analog_values_lem (Some board.Voltage) scale w true = refl

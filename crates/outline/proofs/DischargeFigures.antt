@@ -1,4 +1,5 @@
 -- What was worked by hand of a discharge holds: each figure is computed through the definitions. Assumes nothing.
+use Rattle.std.specs.Prelude.{None}
 use mathlib.Core.Path.{◌≡◌, refl}
 use mathlib.Core.List.{[], ◌∷◌}
 use lib.IntN.{pos}
@@ -26,7 +27,7 @@ use Rattle.outline.specs.DischargeFigures.{settings_out, before, course_from, dr
 -- `stopped_batch` written out: under its name its ticks are computed many times over
 stopped :
     course_from (settings_out 0 0 6000)
-    (with_sequence before (record { stage = stage.SmallDisable 0; clock = 0; error = error.None; judgement = judgement.None }))
+    (with_sequence before (record { stage = stage.SmallDisable 0; clock = 0; error = None; judgement = None }))
     (leg 1 (pos 0) request.Stop ∷ drained 1 2)
     ≡ record {
       stages = 0 ∷ 14 ∷ 15 ∷ 16 ∷ 0 ∷ [];

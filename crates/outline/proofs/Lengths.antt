@@ -1,9 +1,9 @@
 -- How long each kind of reply is, and that 64 bytes hold any. Crates that lend a buffer cite these laws. Assumes nothing.
-use Rattle.std.specs.Prelude.{ℕ, zero, suc, ◌+◌, ◌/◌, ◌≤◌, ◌≡◌, refl, Bool, true, false, cond, [], ◌∷◌, length, replicate}
+use Rattle.std.specs.Prelude.{ℕ, zero, suc, ◌+◌, ◌/◌, ◌≤◌, ◌≡◌, refl, Bool, true, false, cond, [], ◌∷◌, length, replicate, Option, None, Some}
 use Rattle.std.proofs.Common.{add-one, arith, ◌∙◌, length-append}
 use Rattle.types.specs.declared.lines.Shown.{Shown}
 use Rattle.types.specs.declared.lines.Reply.{Reply}
-use Rattle.types.specs.declared.lines.Reply.TheVariants.{Silent, Letters, Weight, Total, Points, Refused}
+use Rattle.types.specs.declared.lines.Reply.TheVariants.{Letters, Weight, Total, Points, Refused}
 use Rattle.outline.specs.Lines.{has_prefix, prefix_length, tens_digit, units_digit}
 use Rattle.outline.specs.Replies.{digits_of, amount_text, weight_text, total_text, points_text, refused_text, prefix_text, framed, reply_text}
 use Rattle.outline.specs.Texts.{text_of, text_length}
@@ -22,14 +22,14 @@ length_amount w = go w.fit
     go true = length_digits 7 w.amount
     go false = refl
 
-pub length_text : (r : Reply) → length (text_of r) ≡ text_length r
+pub length_text : (r : Option Reply) → length (text_of r) ≡ text_length r
 unfolding weight_text total_text points_text refused_text
-length_text Silent = refl
-length_text (Letters k) = refl
-length_text (Weight w) = simp (length-append, length_amount)
-length_text (Total total count) = simp (length-append, length_digits)
-length_text (Points p) = simp (length-append, length_digits)
-length_text (Refused n) = simp (length-append, length_digits)
+length_text None = refl
+length_text (Some (Letters k)) = refl
+length_text (Some (Weight w)) = simp (length-append, length_amount)
+length_text (Some (Total total count)) = simp (length-append, length_digits)
+length_text (Some (Points p)) = simp (length-append, length_digits)
+length_text (Some (Refused n)) = simp (length-append, length_digits)
 
 length_prefix : (address : ℕ) → length (prefix_text address) ≡ prefix_length address
 unfolding prefix_length
@@ -47,35 +47,35 @@ prefix_short address = go (has_prefix address)
     go true = omega arith
     go false = omega arith
 
-pub text_short : (r : Reply) → text_length r ≤ 42
-text_short Silent = omega arith
-text_short (Letters k) = omega arith
-text_short (Weight w) = omega arith
-text_short (Total total count) = omega arith
-text_short (Points p) = omega arith
-text_short (Refused n) = omega arith
+pub text_short : (r : Option Reply) → text_length r ≤ 42
+text_short None = omega arith
+text_short (Some (Letters k)) = omega arith
+text_short (Some (Weight w)) = omega arith
+text_short (Some (Total total count)) = omega arith
+text_short (Some (Points p)) = omega arith
+text_short (Some (Refused n)) = omega arith
 
-pub length_framed : (address : ℕ) (r : Reply) → length (framed address (text_of r)) ≡ prefix_length address + text_length r + 2
+pub length_framed : (address : ℕ) (r : Option Reply) → length (framed address (text_of r)) ≡ prefix_length address + text_length r + 2
 unfolding framed
 length_framed address r = simp (length-append, length_prefix, length_text)
 
 -- ---- whole replies
 pub exact_length : ExactLength
 unfolding reply_text
-exact_length address Silent = refl
-exact_length address (Letters k) = omega (arith, length_framed address (Letters k))
-exact_length address (Weight w) = omega (arith, length_framed address (Weight w))
-exact_length address (Total total count) = omega (arith, length_framed address (Total total count))
-exact_length address (Points p) = omega (arith, length_framed address (Points p))
-exact_length address (Refused n) = omega (arith, length_framed address (Refused n))
+exact_length address None = refl
+exact_length address (Some (Letters k)) = omega (arith, length_framed address (Some (Letters k)))
+exact_length address (Some (Weight w)) = omega (arith, length_framed address (Some (Weight w)))
+exact_length address (Some (Total total count)) = omega (arith, length_framed address (Some (Total total count)))
+exact_length address (Some (Points p)) = omega (arith, length_framed address (Some (Points p)))
+exact_length address (Some (Refused n)) = omega (arith, length_framed address (Some (Refused n)))
 
 pub within_limit : WithinLimit
 within_limit address r = rw (exact_length address r) (go r)
   where
-    go : (r : Reply) → reply_length address r ≤ reply_limit
-    go Silent = omega arith
-    go (Letters k) = omega (arith, prefix_short address)
-    go (Weight w) = omega (arith, prefix_short address)
-    go (Total total count) = omega (arith, prefix_short address)
-    go (Points p) = omega (arith, prefix_short address)
-    go (Refused n) = omega (arith, prefix_short address)
+    go : (r : Option Reply) → reply_length address r ≤ reply_limit
+    go None = omega arith
+    go (Some (Letters k)) = omega (arith, prefix_short address)
+    go (Some (Weight w)) = omega (arith, prefix_short address)
+    go (Some (Total total count)) = omega (arith, prefix_short address)
+    go (Some (Points p)) = omega (arith, prefix_short address)
+    go (Some (Refused n)) = omega (arith, prefix_short address)

@@ -1,5 +1,5 @@
 -- What holds of the answer of a run's tick holds of that of a tick with a line: the gates, and the day that a DC closes. Assumes nothing.
-use Rattle.std.specs.Prelude.{Option, Result, Ok, ℕ}
+use Rattle.std.specs.Prelude.{Option, Result, Ok, ℕ, None}
 use Prim.Native.Nat.{ℕ}
 use native.Mathlib.Omega.{arith}
 use mathlib.Core.Path.{◌≡◌, sym, subst}
@@ -29,7 +29,7 @@ use Rattle.outline.proofs.ReadBack.{told_done}
 -- ---- gates
 pub gates_on_line : GatesShut → LinesAreRuns → GatesShutOnLine
 gates_on_line law runs s ok h count contact receive buffer =
-    subst (λ (a : Answer). (a.error ≡ error.None → ⊥) → a.gates ≡ shut) (sym (runs s h count contact receive buffer).answer)
+    subst (λ (a : Answer). (a.error ≡ None → ⊥) → a.gates ≡ shut) (sym (runs s h count contact receive buffer).answer)
     (law s ok h (line_input s (run_of s h) count contact receive buffer))
 
 -- ---- the day that a DC closes

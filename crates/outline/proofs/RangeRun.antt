@@ -1,5 +1,6 @@
 -- Every state that is reached is in range, and so are the weights of its next tick: part by part, by the ticks that have passed.
 -- Assumes nothing.
+use Rattle.std.specs.Prelude.{None}
 use native.Mathlib.Omega.{arith}
 use mathlib.Core.Path.{◌≡◌, refl}
 use mathlib.Core.Bool.{Bool, true, false, ◌||◌}
@@ -98,7 +99,7 @@ in_range s a h = record {
 }
 
 -- ---- from whatever state is in range and in balance
-quiet_in : (q : Sequence) → (idle_of q.stage ≡ false → q.error ≡ error.None) → quiet_of q ≡ true
+quiet_in : (q : Sequence) → (idle_of q.stage ≡ false → q.error ≡ None) → quiet_of q ≡ true
 quiet_in q h = go (idle_of q.stage) refl
   where
     go : (t : Bool) → idle_of q.stage ≡ t → no_error q.error || t ≡ true

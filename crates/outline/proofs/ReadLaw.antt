@@ -1,7 +1,7 @@
 -- A read asks nothing of its tick, so that what step 4 leaves of display, totals and setpoints is what stood before it: the reply due can
 -- be made from the state before the tick and from what the tick answers. A law that the proof of the tick with a line cites. Assumes
 -- nothing.
-use Rattle.std.specs.Prelude.{◌≡◌, Result, Ok, Err}
+use Rattle.std.specs.Prelude.{◌≡◌, Result, Ok, Err, Some}
 use Rattle.std.proofs.Math.Path.{refl, ap}
 use Rattle.types.specs.declared.requests.Refusal.{Refusal}
 use Rattle.types.specs.declared.settings.Settings.{Settings}
@@ -45,9 +45,9 @@ module _ (s : Settings) (st : State) (i : Input) where
 
   word_before : (w : Word) → i.request ≡ word_request w → (x : Reading) (o : Result (Unit {0}) Refusal)
       → word_reply w (settled_of s st i).state x o ≡ word_reply w st x o
-  word_before word.ReadWeight e x o = ap (λ (p : Panel). reply.Weight (shown_of p.display x)) (panel_stays e)
-  word_before word.ReadTotal e x o = ap (λ (t : Totals). reply.Total t.total t.count) (totals_stay e)
-  word_before word.ReadSetpoints e x o = ap (λ (p : Setpoints). reply.Points p) (latest_stays e)
+  word_before word.ReadWeight e x o = ap (λ (p : Panel). Some (reply.Weight (shown_of p.display x))) (panel_stays e)
+  word_before word.ReadTotal e x o = ap (λ (t : Totals). Some (reply.Total t.total t.count)) (totals_stay e)
+  word_before word.ReadSetpoints e x o = ap (λ (p : Setpoints). Some (reply.Points p)) (latest_stays e)
   word_before word.Zero e x o = refl
   word_before word.Tare e x o = refl
   word_before word.TareClear e x o = refl

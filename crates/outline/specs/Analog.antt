@@ -1,5 +1,5 @@
 -- The outline's section "Analog value".
-use Rattle.std.specs.Prelude.{Bool, cond, ℤ, pos, Float}
+use Rattle.std.specs.Prelude.{Bool, cond, ℤ, pos, Float, Option, None, Some}
 use Rattle.std.specs.Float.{binary64}
 use Rattle.std.specs.Float.Ieee.{of_int, add, sub, mul, div, lt}
 use Rattle.types.specs.declared.analog.Scale.{Scale}
@@ -36,12 +36,12 @@ current_of x d = add binary64 (div binary64 (mul binary64 (f64 (pos 16)) x) d) (
 abbrev pub voltage_of : Float → Float → Float
 voltage_of x d = add binary64 (div binary64 (mul binary64 (f64 (pos 10)) x) d) (f64 (pos 0))
 
-abbrev pub on_board : Board → Float → Float → Analog
-on_board board.None x d = analog.None
-on_board board.Current x d = analog.Current (current_of x d)
-on_board board.Voltage x d = analog.Voltage (voltage_of x d)
+abbrev pub on_board : Option Board → Float → Float → Option Analog
+on_board None x d = None
+on_board (Some board.Current) x d = Some (analog.Current (current_of x d))
+on_board (Some board.Voltage) x d = Some (analog.Voltage (voltage_of x d))
 
 -- "The answer is a current, a voltage or no value; no value in a bad or overloaded tick or without a board."
 -- `fit` is a good tick without overload.
-unfoldable pub analog_of : Board → Scale → ℤ → Bool → Analog
-analog_of b scale displayed fit = cond fit (on_board b (distance_of scale displayed) scale.span) analog.None
+unfoldable pub analog_of : Option Board → Scale → ℤ → Bool → Option Analog
+analog_of b scale displayed fit = cond fit (on_board b (distance_of scale displayed) scale.span) None

@@ -27,10 +27,10 @@ minus_zero = fin true 0 (pos 0)
 
 -- At the low end 4 mA and 0 V, at the high end 20 mA and 10 V, to the last bit.
 pub record ExactEnds (low high : ℤ) : Type 0 where
-  pub four : analog_of board.Current (scale_of low high) low true ≡ analog.Current (f64 (pos 4))
-  pub twenty : analog_of board.Current (scale_of low high) high true ≡ analog.Current (f64 (pos 20))
-  pub nought : analog_of board.Voltage (scale_of low high) low true ≡ analog.Voltage plus_zero
-  pub ten : analog_of board.Voltage (scale_of low high) high true ≡ analog.Voltage (f64 (pos 10))
+  pub four : analog_of (Some board.Current) (scale_of low high) low true ≡ Some (analog.Current (f64 (pos 4)))
+  pub twenty : analog_of (Some board.Current) (scale_of low high) high true ≡ Some (analog.Current (f64 (pos 20)))
+  pub nought : analog_of (Some board.Voltage) (scale_of low high) low true ≡ Some (analog.Voltage plus_zero)
+  pub ten : analog_of (Some board.Voltage) (scale_of low high) high true ≡ Some (analog.Voltage (f64 (pos 10)))
 
 -- w is at `end`, or on the side of it that is away from `other`
 abbrev pub past : ℤ → ℤ → ℤ → Bool
@@ -38,10 +38,10 @@ past end other w = cond (lt_z end other) (le_z w end) (le_z end w)
 
 -- Beyond an end the value is that end's.
 pub record BeyondEnds (low high w : ℤ) : Type 0 where
-  pub four : T (past low high w) → analog_of board.Current (scale_of low high) w true ≡ analog.Current (f64 (pos 4))
-  pub twenty : T (past high low w) → analog_of board.Current (scale_of low high) w true ≡ analog.Current (f64 (pos 20))
-  pub nought : T (past low high w) → analog_of board.Voltage (scale_of low high) w true ≡ analog.Voltage plus_zero
-  pub ten : T (past high low w) → analog_of board.Voltage (scale_of low high) w true ≡ analog.Voltage (f64 (pos 10))
+  pub four : T (past low high w) → analog_of (Some board.Current) (scale_of low high) w true ≡ Some (analog.Current (f64 (pos 4)))
+  pub twenty : T (past high low w) → analog_of (Some board.Current) (scale_of low high) w true ≡ Some (analog.Current (f64 (pos 20)))
+  pub nought : T (past low high w) → analog_of (Some board.Voltage) (scale_of low high) w true ≡ Some (analog.Voltage plus_zero)
+  pub ten : T (past high low w) → analog_of (Some board.Voltage) (scale_of low high) w true ≡ Some (analog.Voltage (f64 (pos 10)))
 
 -- mA and V of the displayed weight w
 abbrev pub current_at : ℤ → ℤ → ℤ → Float
@@ -52,8 +52,8 @@ voltage_at low high w = voltage_of (distance_of (scale_of low high) w) (scale_of
 
 -- These are what a board is given, they never leave 4 to 20 mA and 0 to 10 V, and no voltage is -0.0.
 pub record InRange (low high w : ℤ) : Type 0 where
-  pub current : analog_of board.Current (scale_of low high) w true ≡ analog.Current (current_at low high w)
-  pub voltage : analog_of board.Voltage (scale_of low high) w true ≡ analog.Voltage (voltage_at low high w)
+  pub current : analog_of (Some board.Current) (scale_of low high) w true ≡ Some (analog.Current (current_at low high w))
+  pub voltage : analog_of (Some board.Voltage) (scale_of low high) w true ≡ Some (analog.Voltage (voltage_at low high w))
   pub from_four : T (le (f64 (pos 4)) (current_at low high w))
   pub to_twenty : T (le (current_at low high w) (f64 (pos 20)))
   pub from_nought : T (le (f64 (pos 0)) (voltage_at low high w))

@@ -180,19 +180,19 @@ line_due s st count contact receive buffer =
     11
 
 -- ---- an analog answer: none, a current, a voltage, and its value
-abbrev pub board_number : Board → ℕ
-board_number board.None = 0
-board_number board.Current = 1
-board_number board.Voltage = 2
+abbrev pub board_number : Option Board → ℕ
+board_number None = 0
+board_number (Some board.Current) = 1
+board_number (Some board.Voltage) = 2
 
-abbrev pub values_on : Board → Float → Float → List Float
-values_on board.None x d = []
-values_on board.Current x d = current_of x d ∷ []
-values_on board.Voltage x d = voltage_of x d ∷ []
+abbrev pub values_on : Option Board → Float → Float → List Float
+values_on None x d = []
+values_on (Some board.Current) x d = current_of x d ∷ []
+values_on (Some board.Voltage) x d = voltage_of x d ∷ []
 
 -- "no value in a bad or overloaded tick or without a board"
-unfoldable pub analog_due : Board → Bool → ℕ
+unfoldable pub analog_due : Option Board → Bool → ℕ
 analog_due b fit = cond fit (board_number b) 0
 
-unfoldable pub analog_values_due : Board → Scale → ℤ → Bool → List Float
+unfoldable pub analog_values_due : Option Board → Scale → ℤ → Bool → List Float
 analog_values_due b scale displayed fit = cond fit (values_on b (distance_of scale displayed) scale.span) []

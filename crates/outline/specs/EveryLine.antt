@@ -1,6 +1,6 @@
 -- What holds of every tick with a line, whatever the two buffers: the outline's section "Serial lines" as named statements, for whatever
 -- settings and state, or for every run (4 and 5). They are proved in proofs/, and `every_line` has them as its `ensures`.
-use Rattle.std.specs.Prelude.{ℕ, ◌≤◌, ◌≡◌, Bool, true, false, ◌&&◌, ◌||◌, List, ◌++◌, leb, length, drop, ℤ, Some, Ok, Err}
+use Rattle.std.specs.Prelude.{ℕ, ◌≤◌, ◌≡◌, Bool, true, false, ◌&&◌, ◌||◌, List, ◌++◌, leb, length, drop, ℤ, Some, Ok, Err, None}
 use Rattle.types.specs.declared.settings.Settings.{Settings}
 use Rattle.types.specs.declared.stages.Setpoints.{Setpoints}
 use Rattle.types.specs.declared.stages.SequenceError.TheVariants as error
@@ -129,7 +129,7 @@ ReadBackOnLine = (s : Settings) → Accepted s → (h : History Input) (count : 
 abbrev pub GatesShutOnLine : Type 0
 GatesShutOnLine = (s : Settings) → Accepted s → (h : History Input) (count : ℤ) (contact : Bool) (receive buffer : List ℕ) →
     let a = (line_tick_of s (run_of s h) count contact receive buffer).answer in
-    (a.error ≡ error.None → ⊥) → a.gates ≡ shut
+    (a.error ≡ None → ⊥) → a.gates ≡ shut
 
 -- ---- 6. a DC that is told 0 answers the book that the same tick without it would have left
 abbrev pub TicketOnLine : Type 0

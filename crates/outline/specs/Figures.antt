@@ -127,7 +127,7 @@ pub record Starred : Type 0 where
   pub undo_once : outcome_number (told settings_a one_batch (pos 100) request.Undo).outcome ≡ 0
   pub undo_twice : outcome_number (told settings_a (next one_batch (pos 100) request.Undo) (pos 100) request.Undo).outcome ≡ 7
   -- "| ends 100 and 0, weight 100, voltage * | +0.0, not -0.0 |"
-  pub volts_at_low_end : (told settings_volts open_state (pos 1000) request.Nothing).analog ≡ analog.Voltage (fin false 0 (pos 0))
+  pub volts_at_low_end : (told settings_volts open_state (pos 1000) request.Nothing).analog ≡ Some (analog.Voltage (fin false 0 (pos 0)))
 
 -- ---- the rows that are run and compared, computed here as well
 -- a fall of 5, held 100 ticks

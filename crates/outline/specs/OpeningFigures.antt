@@ -34,7 +34,7 @@ written_a = record {
     discharge = record { start = 0; end = 0; limit = 6000 };
   };
   address = 0;
-  board = board.None;
+  board = None;
   scale = record { low = f64 (pos 0); span = f64 (pos 10000) };
 }
 
@@ -61,7 +61,7 @@ written_b = record {
     discharge = record { start = 18; end = 19; limit = 21 };
   };
   address = 17;
-  board = board.Current;
+  board = Some board.Current;
   scale = record { low = f64 (minus 7); span = f64 (pos 77) };
 }
 
@@ -84,7 +84,7 @@ written_state = record {
   panel = record { display = display.Gross };
   setpoints = record { target = 0; fall = 0; preliminary = 0; optional = 0; over = 0; under = 0; near = 0 };
   waiting = None;
-  sequence = record { stage = stage.Idle; clock = 0; error = error.None; judgement = judgement.None };
+  sequence = record { stage = stage.Idle; clock = 0; error = None; judgement = None };
   totals = record { total = 0; count = 0; back = None };
 }
 

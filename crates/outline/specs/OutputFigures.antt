@@ -1,6 +1,6 @@
 -- Worked by hand from the outline: all outputs of the first tick, near zero and full at their limits, the analog value of what is
 -- displayed, and the longest block. Statements; they are computed in proofs/OutputFigures.antt.
-use Rattle.std.specs.Prelude.{ℕ, ◌≡◌, Bool, true, false, List, [], ◌∷◌, ◌++◌, replicate, set, ℤ, pos, Float, None, Ok}
+use Rattle.std.specs.Prelude.{ℕ, ◌≡◌, Bool, true, false, List, [], ◌∷◌, ◌++◌, replicate, set, ℤ, pos, Float, None, Ok, Option}
 use Rattle.types.specs.declared.settings.Settings.{Settings}
 use Rattle.types.specs.declared.analog.Analog.{Analog}
 use Rattle.types.specs.declared.analog.Analog.TheVariants as analog
@@ -29,11 +29,11 @@ first_answer gross near = record {
   reading = record { good = true; overload = false; stable = false; gross = gross; net = gross };
   stage = stage.Idle;
   gates = record { large = false; medium = false; small = false; discharge = false };
-  judgement = judgement.None;
-  error = error.None;
+  judgement = None;
+  error = None;
   near = near;
   full = false;
-  analog = analog.None;
+  analog = None;
   closed = None;
 }
 
@@ -58,7 +58,7 @@ full_at count = (with_limits settings_loss count).full
 abbrev pub on_board : ℕ → Settings
 on_board b = settings_of (given_of (set list_a 19 (pos b)))
 
-abbrev pub first_analog : ℕ → ℤ → Analog
+abbrev pub first_analog : ℕ → ℤ → Option Analog
 first_analog b count = (told (on_board b) open_state count request.Nothing).analog
 
 abbrev pub analog_in : List Answer → List (List Float)

@@ -1,5 +1,5 @@
 -- The outline's section "Serial lines", second part: the bytes of each reply, the caller's reply buffer, and the tick with a line.
-use Rattle.std.specs.Prelude.{ℕ, zero, suc, ◌/◌, ◌%◌, List, [], ◌∷◌, ◌++◌, Bool, true, false, cond, not, ◌&&◌, length, drop, replicate, leb, ℤ, pos, nat_abs, Result, Ok, Err}
+use Rattle.std.specs.Prelude.{ℕ, zero, suc, ◌/◌, ◌%◌, List, [], ◌∷◌, ◌++◌, Bool, true, false, cond, not, ◌&&◌, length, drop, replicate, leb, ℤ, pos, nat_abs, Result, Ok, Err, Option, None, Some}
 use Rattle.std.specs.Int.Signed.{lt_z}
 use Rattle.types.specs.declared.requests.Refusal.{Refusal}
 use Rattle.types.specs.declared.settings.Settings.{Settings}
@@ -84,13 +84,13 @@ unfoldable pub framed : ℕ → List ℕ → List ℕ
 framed address text = prefix_text address ++ text ++ (13 ∷ 10 ∷ [])
 
 -- the whole reply; an empty one has neither prefix nor CR LF
-unfoldable pub reply_text : ℕ → Reply → List ℕ
-reply_text address reply.Silent = []
-reply_text address (reply.Letters k) = framed address (letters_text k)
-reply_text address (reply.Weight w) = framed address (weight_text w)
-reply_text address (reply.Total total count) = framed address (total_text total count)
-reply_text address (reply.Points p) = framed address (points_text p)
-reply_text address (reply.Refused n) = framed address (refused_text n)
+unfoldable pub reply_text : ℕ → Option Reply → List ℕ
+reply_text address None = []
+reply_text address (Some (reply.Letters k)) = framed address (letters_text k)
+reply_text address (Some (reply.Weight w)) = framed address (weight_text w)
+reply_text address (Some (reply.Total total count)) = framed address (total_text total count)
+reply_text address (Some (reply.Points p)) = framed address (points_text p)
+reply_text address (Some (reply.Refused n)) = framed address (refused_text n)
 
 -- ---- what a command asks of its tick, what reply is due to it, what it is told
 -- "A line comes with a tick and is that tick's request": "CT, DT, CA are tare clear, total clear, undo." A read asks for nothing.
@@ -143,16 +143,16 @@ shown_of d x = record {
 }
 
 -- "an accepted request its two letters; a refused one NG and two digits"
-abbrev pub request_reply : ℕ → Result (Unit {0}) Refusal → Reply
-request_reply k (Ok tt) = reply.Letters k
-request_reply k (Err n) = reply.Refused (refusal_number n)
+abbrev pub request_reply : ℕ → Result (Unit {0}) Refusal → Option Reply
+request_reply k (Ok tt) = Some (reply.Letters k)
+request_reply k (Err n) = Some (reply.Refused (refusal_number n))
 
 -- "a read shows the state as step 4 leaves it", and the weights that serve its tick
-abbrev pub word_reply : Word → State → Reading → Result (Unit {0}) Refusal → Reply
-word_reply word.ReadWeight st x o = reply.Weight (shown_of st.panel.display x)
-word_reply word.ReadTotal st x o = reply.Total st.totals.total st.totals.count
+abbrev pub word_reply : Word → State → Reading → Result (Unit {0}) Refusal → Option Reply
+word_reply word.ReadWeight st x o = Some (reply.Weight (shown_of st.panel.display x))
+word_reply word.ReadTotal st x o = Some (reply.Total st.totals.total st.totals.count)
 -- A5: "RS reads the waiting set if there is one."
-word_reply word.ReadSetpoints st x o = reply.Points (latest_of st.setpoints st.waiting)
+word_reply word.ReadSetpoints st x o = Some (reply.Points (latest_of st.setpoints st.waiting))
 word_reply word.Zero st x o = request_reply (letters_for word.Zero) o
 word_reply word.Tare st x o = request_reply (letters_for word.Tare) o
 word_reply word.TareClear st x o = request_reply (letters_for word.TareClear) o
@@ -166,14 +166,14 @@ word_reply word.DayClose st x o = request_reply (letters_for word.DayClose) o
 word_reply word.Discharge st x o = request_reply (letters_for word.Discharge) o
 
 -- "A 12, no line and a line over 64 bytes have an empty reply; another 11, and 13, reply with NG and the number."
-unfoldable pub reply_due : Result Order LineFault → State → Reading → Result (Unit {0}) Refusal → Reply
+unfoldable pub reply_due : Result Order LineFault → State → Reading → Result (Unit {0}) Refusal → Option Reply
 reply_due (Ok (order.Do w)) st x o = word_reply w st x o
 reply_due (Ok (order.Set p)) st x o = request_reply set_letters o
-reply_due (Err fault.NoLine) st x o = reply.Silent
-reply_due (Err fault.LongLine) st x o = reply.Silent
-reply_due (Err fault.OtherAddress) st x o = reply.Silent
-reply_due (Err fault.Malformed) st x o = reply.Refused (told_number (Err told.Malformed))
-reply_due (Err fault.Unknown) st x o = reply.Refused (told_number (Err told.Unknown))
+reply_due (Err fault.NoLine) st x o = None
+reply_due (Err fault.LongLine) st x o = None
+reply_due (Err fault.OtherAddress) st x o = None
+reply_due (Err fault.Malformed) st x o = Some (reply.Refused (told_number (Err told.Malformed)))
+reply_due (Err fault.Unknown) st x o = Some (reply.Refused (told_number (Err told.Unknown)))
 
 -- what the line is answered, where the reply due fits
 abbrev pub outcome_told : Result (Unit {0}) Refusal → Result (Unit {0}) LineRefusal

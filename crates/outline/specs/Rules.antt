@@ -214,9 +214,9 @@ pub record Booked : Type 0 where
   pub full_bad : (told settings_loss open_state (pos 2000001) request.Nothing).full ≡ false
   pub full_overload : (told settings_loss open_state (pos 110000) request.Nothing).full ≡ false
   -- no analog value without a board, nor in a bad or overloaded tick with one
-  pub no_value_bad : (told settings_volts open_state (pos 2000001) request.Nothing).analog ≡ analog.None
-  pub no_value_overload : (told settings_volts open_state (pos 110000) request.Nothing).analog ≡ analog.None
-  pub no_value : (told settings_a open_state (pos 0) request.Nothing).analog ≡ analog.None
+  pub no_value_bad : (told settings_volts open_state (pos 2000001) request.Nothing).analog ≡ None
+  pub no_value_overload : (told settings_volts open_state (pos 110000) request.Nothing).analog ≡ None
+  pub no_value : (told settings_a open_state (pos 0) request.Nothing).analog ≡ None
   -- the tests for no line and for 64 bytes come before 12
   pub no_line_first : told_number (ask settings7 open_state (pos 0) (ascii "XX") 9).told ≡ 11
   pub long_first : told_number (ask settings7 open_state (pos 0) (replicate 65 88 ++ (13 ∷ 10 ∷ [])) 9).told ≡ 11

@@ -85,8 +85,8 @@ settings_fit g =
 abbrev pub mode_of : ℤ → Mode
 mode_of m = cond (eq_z m (pos 1)) mode.Normal mode.Loss
 
-abbrev pub board_of : ℤ → Board
-board_of b = cond (eq_z b (pos 1)) board.Current (cond (eq_z b (pos 2)) board.Voltage board.None)
+abbrev pub board_of : ℤ → Option Board
+board_of b = cond (eq_z b (pos 1)) (Some board.Current) (cond (eq_z b (pos 2)) (Some board.Voltage) None)
 
 unfoldable pub settings_of : Given → Settings
 settings_of g = record {

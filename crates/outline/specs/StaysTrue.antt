@@ -85,7 +85,7 @@ TotalOfBatches = (s : Settings) → Accepted s → (h : History Input) → Total
 abbrev pub GatesShut : Type 0
 GatesShut = (s : Settings) → Accepted s → (h : History Input) (i : Input) →
     let a = (tick_of s (run_of s h) i).answer in
-    (a.error ≡ error.None → ⊥) → a.gates ≡ shut
+    (a.error ≡ None → ⊥) → a.gates ≡ shut
 
 -- ---- 7. every state reached is in range, and the weights of its next tick are
 pub record Within (s : Settings) (h : History Input) : Type 0 where
@@ -192,7 +192,7 @@ pub record Keeps (s : Settings) (st : State) : Type 0 where
   pub balance : Balanced st.book
   pub gates : (i : Input) →
       let a = (tick_of s st i).answer in
-      (a.error ≡ error.None → ⊥) → a.gates ≡ shut
+      (a.error ≡ None → ⊥) → a.gates ≡ shut
 
 abbrev pub FromRange : Type 0
 FromRange = (s : Settings) (st : State) → StateRange s st → Balanced st.book → (is : List Input) → Keeps s (run_from s st is)

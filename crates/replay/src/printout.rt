@@ -94,7 +94,7 @@ fn put_gates(out: &mut [u8], at: usize, g: Gates) -> usize {
 
 fn put_judgement(out: &mut [u8], at: usize, j: Judgement) -> usize {
     match j {
-        Judgement::None => return put(out, at, b" judgement=none"),
+        None => return put(out, at, b" judgement=none"),
         Judgement::Ok => return put(out, at, b" judgement=ok"),
         Judgement::Over => return put(out, at, b" judgement=over"),
         Judgement::Under => return put(out, at, b" judgement=under"),
@@ -112,7 +112,7 @@ fn put_float(out: &mut [u8], at: usize, x: f64) -> usize {
 fn put_analog(out: &mut [u8], at: usize, a: Analog) -> usize {
     let at = put(out, at, b" analog=");
     match a {
-        Analog::None => put_byte(out, at, DASH),
+        None => put_byte(out, at, DASH),
         Analog::Current(x) => put_float(out, at, x),
         Analog::Voltage(x) => put_float(out, at, x),
     }

@@ -1,4 +1,5 @@
 -- A whole reply at the buffer's start: its prefix, its text, what is answered. Assumes nothing.
+use Rattle.std.specs.Prelude.{Option, None, Some}
 use Prim.Native.Nat.{ℕ, ◌≤◌, ◌<◌}
 use native.Mathlib.Omega.{arith}
 use mathlib.Core.Path.{◌≡◌, refl, ap, ◌∙◌}
@@ -8,7 +9,7 @@ use lib.Dec.{eqb, leb-zero}
 use lib.ListN.{length}
 use borrow.Author.Tests.{le-leb, lt-leb, le-ltb, lt-ltb, eq-eqb, ne_eqb}
 use Rattle.types.specs.declared.lines.Reply.{Reply}
-use Rattle.types.specs.declared.lines.Reply.TheVariants.{Silent, Letters, Weight, Total, Points, Refused}
+use Rattle.types.specs.declared.lines.Reply.TheVariants.{Letters, Weight, Total, Points, Refused}
 use Rattle.outline.specs.Lines.{prefix_length, tens_digit, units_digit}
 use Rattle.outline.specs.Replies.{prefix_text, framed, reply_text}
 use Rattle.replies.specs.declared.Wrote.TheVariants.{Bytes, Short}
@@ -42,19 +43,19 @@ unfolding wrote_of
 short_answer xs d h = simp (lt-leb _ _ h)
 
 -- ---- a reply by whether it has a text
-by_text : (a : ℕ) (r : Reply) → reply_text a r ≡ cond (eqb (text_length r) 0) [] (framed a (text_of r))
+by_text : (a : ℕ) (r : Option Reply) → reply_text a r ≡ cond (eqb (text_length r) 0) [] (framed a (text_of r))
 unfolding reply_text
-by_text a Silent = refl
-by_text a (Letters k) = refl
-by_text a (Weight w) = refl
-by_text a (Total total count) = refl
-by_text a (Points p) = refl
-by_text a (Refused n) = refl
+by_text a None = refl
+by_text a (Some (Letters k)) = refl
+by_text a (Some (Weight w)) = refl
+by_text a (Some (Total total count)) = refl
+by_text a (Some (Points p)) = refl
+by_text a (Some (Refused n)) = refl
 
-pub no_text : (a : ℕ) (r : Reply) → text_length r ≡ 0 → reply_text a r ≡ []
+pub no_text : (a : ℕ) (r : Option Reply) → text_length r ≡ 0 → reply_text a r ≡ []
 no_text a r e = by_text a r ∙ simp (eq-eqb _ _ e)
 
-pub some_text : (a : ℕ) (r : Reply) → (text_length r ≡ 0 → ⊥) → reply_text a r ≡ framed a (text_of r)
+pub some_text : (a : ℕ) (r : Option Reply) → (text_length r ≡ 0 → ⊥) → reply_text a r ≡ framed a (text_of r)
 some_text a r e = by_text a r ∙ simp (ne_eqb _ _ e)
 
 pub silent_answer : (d : List ℕ) → Bytes 0 ≡ wrote_of [] d

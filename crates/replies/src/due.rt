@@ -83,9 +83,9 @@ pub fn reply_due(c: Result<Order, LineFault>, st: State, x: Reading, o: Result<(
     match c {
         Ok(Order::Do(w)) => word_reply(w, st, x, o),
         Ok(Order::Set(_)) => request_reply(SET_LETTERS, o),
-        Err(LineFault::NoLine) => Reply::Silent,
-        Err(LineFault::LongLine) => Reply::Silent,
-        Err(LineFault::OtherAddress) => Reply::Silent,
+        Err(LineFault::NoLine) => None,
+        Err(LineFault::LongLine) => None,
+        Err(LineFault::OtherAddress) => None,
         Err(LineFault::Malformed) => Reply::Refused(numbers::told_number(Err(LineRefusal::Malformed))),
         Err(LineFault::Unknown) => Reply::Refused(numbers::told_number(Err(LineRefusal::Unknown))),
     }

@@ -141,7 +141,7 @@ pub(crate) fn text_length(r: Reply) -> usize
     ensures { result ≡ text_length r }
 {
     match r {
-        Reply::Silent => 0,
+        None => 0,
         Reply::Letters(_) => LETTERS_BYTES,
         Reply::Weight(_) => WEIGHT_BYTES,
         Reply::Total(_, _) => TOTAL_BYTES,
@@ -155,7 +155,7 @@ pub(crate) fn put_text(buffer: &mut [u8], at: usize, r: Reply) -> usize
     ensures { Put buffer.old at (text_of r) buffer.new result (text_length r) }
 {
     match r {
-        Reply::Silent => at,
+        None => at,
         Reply::Letters(k) => put_letters(buffer, at, k),
         Reply::Weight(w) => put_weight(buffer, at, w),
         Reply::Total(total, count) => put_total(buffer, at, total, count),

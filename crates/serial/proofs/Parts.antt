@@ -1,5 +1,5 @@
 -- A tick with a line, put together from what its parts give: the command, the tick, the reply due and what was written. Assumes nothing.
-use Rattle.std.specs.Prelude.{Result, Err}
+use Rattle.std.specs.Prelude.{Result, Err, Option}
 use Prim.Native.Nat.{ℕ}
 use native.Mathlib.Omega.{arith}
 use mathlib.Core.Path.{◌≡◌, refl, sym, ap, ◌∙◌}
@@ -38,7 +38,7 @@ short_case true k fit short e = let z : ◌≡◌ {A = ℕ} 0 1 = cc in absurd (
 short_case false k fit short e = refl
 
 module _ (s : Settings) (st : State) (count : ℤ) (contact : Bool) (receive buffer : List ℕ)
-    (command : Result Order LineFault) (request : Request) (tick : Ticked) (due : Reply) (wrote : Wrote) (after : List ℕ)
+    (command : Result Order LineFault) (request : Request) (tick : Ticked) (due : Option Reply) (wrote : Wrote) (after : List ℕ)
     (ec : command ≡ command_of receive s.address)
     (er : request ≡ request_of command)
     (et : tick ≡ tick_of s st (record { count = count; contact = contact; request = request }))

@@ -25,7 +25,7 @@ fn board_of(b: i32) -> Board
     if b == 2 {
         return Board::Voltage;
     }
-    Board::None
+    None
 }
 
 // What is made of settings that passed the check, in types as narrow as their ranges: part by part, then whole.

@@ -2,7 +2,6 @@
 
 #[derive(Clone, Copy)]
 pub enum Board {
-    None,
     Current,
     Voltage,
 }
@@ -14,10 +13,9 @@ pub struct Scale {
     pub span: f64,
 }
 
-// A current in mA, a voltage in V, or no value.
+// A current in mA, or a voltage in V.
 #[derive(Clone, Copy)]
 pub enum Analog {
-    None,
     Current(f64),
     Voltage(f64),
 }

@@ -73,10 +73,9 @@ pub struct Shown {
     pub amount: u64,
 }
 
-// What stands between prefix and CR LF; silent is no reply at all.
+// What stands between prefix and CR LF.
 #[derive(Clone, Copy)]
 pub enum Reply {
-    Silent,
     Letters(u16),
     Weight(Shown),
     Total(u64, u32),

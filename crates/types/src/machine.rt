@@ -56,12 +56,12 @@ pub struct Answer {
     pub reading: Reading,
     pub stage: Stage,
     pub gates: Gates,
-    pub judgement: Judgement,
-    pub error: SequenceError,
+    pub judgement: Option<Judgement>,
+    pub error: Option<SequenceError>,
     // the near-zero and the full output
     pub near: bool,
     pub full: bool,
-    pub analog: Analog,
+    pub analog: Option<Analog>,
     // the day that an accepted day close ended, as step 2 left it: its closing raw is `last`
     pub closed: Option<Book>,
 }

@@ -110,6 +110,6 @@ pub struct Settings {
     pub steadiness: Steadiness,
     pub batching: Batching,
     pub address: u8,
-    pub board: Board,
+    pub board: Option<Board>,
     pub scale: Scale,
 }

@@ -33,16 +33,14 @@ pub enum Stage {
 
 #[derive(Clone, Copy)]
 pub enum Judgement {
-    None,
     Ok,
     Over,
     Under,
 }
 
-// None; of a batch errors 1, 2, 4, 6, 9 and 10; of a discharge 7, 8 and 9.
+// Of a batch errors 1, 2, 4, 6, 9 and 10; of a discharge 7, 8 and 9.
 #[derive(Clone, Copy)]
 pub enum SequenceError {
-    None,
     NoFinal,
     Reached,
     Stopped,
@@ -58,8 +56,8 @@ pub struct Sequence {
     pub stage: Stage,
     // the flow clock in 04 to 11, the discharge's in 15 and 16
     pub clock: u16,
-    pub error: SequenceError,
-    pub judgement: Judgement,
+    pub error: Option<SequenceError>,
+    pub judgement: Option<Judgement>,
 }
 
 #[derive(Clone, Copy)]

@@ -1,4 +1,5 @@
 -- The reply that is due asks for four parts of the state, which are those that the buffer holds.
+use Rattle.std.specs.Prelude.{Option}
 use mathlib.Core.Path.{◌≡◌, ◌∙◌, ap}
 use Rattle.types.specs.declared.machine.State.{State}
 use Rattle.types.specs.declared.machine.Reading.{Reading}
@@ -58,8 +59,8 @@ shape_of-reply c = search rules
 returns : tie.Need-returns
 returns c =
     let a = (start c).args in (
-      (λ st h. c.write_reply.ensures.0 ∙ ap (λ (r : Reply). wrote_of (reply_text a.s.address r) a.reply.now) (due c st h)),
-      (λ st h. c.write_reply.ensures.1 ∙ ap (λ (r : Reply). written_of (reply_text a.s.address r) a.reply.now) (due c st h)),
+      (λ st h. c.write_reply.ensures.0 ∙ ap (λ (r : Option Reply). wrote_of (reply_text a.s.address r) a.reply.now) (due c st h)),
+      (λ st h. c.write_reply.ensures.1 ∙ ap (λ (r : Option Reply). written_of (reply_text a.s.address r) a.reply.now) (due c st h)),
     )
 
 pub reply_spec : {M : Type 1} → statement M
