@@ -38,14 +38,14 @@ fn unseen() -> Seen {
 }
 
 // The request before a block.
-fn request_of(block: u64, points: Setpoints) -> Request {
+fn request_of(block: u64, points: Setpoints) -> Option<Request> {
     if block == 0 {
-        return Request::Set(points);
+        return Some(Request::Set(points));
     }
     if block == 1 {
-        return Request::Start;
+        return Some(Request::Start);
     }
-    Request::Stop
+    Some(Request::Stop)
 }
 
 // Each mode takes the first count once before anything is measured. So the state that a mode begins with is no constant to the
@@ -59,8 +59,8 @@ fn started(s: Settings, head: Head, bytes: &[u8], reply: &mut [u8]) -> Run {
         seen: unseen(),
         ticks: 0,
     };
-    let run = block_ticks(s, run, Request::Set(points), &first, contact);
-    let run = unasked_ticks(s, run, Request::Start, &first, contact);
+    let run = block_ticks(s, run, Some(Request::Set(points)), &first, contact);
+    let run = unasked_ticks(s, run, Some(Request::Start), &first, contact);
     let run = asked_ticks(s, run, points, &first, contact);
     line_ticks(s, run, input::lines(bytes), &first, contact, reply)
 }

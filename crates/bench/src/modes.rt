@@ -26,7 +26,7 @@ fn more(ticks: u64, n: usize) -> u64 {
 }
 
 // The tick between two blocks.
-fn between(s: Settings, st: State, request: Request, contact: bool) -> State {
+fn between(s: Settings, st: State, request: Option<Request>, contact: bool) -> State {
     let ticked = tick(
         s,
         st,
@@ -42,7 +42,7 @@ fn between(s: Settings, st: State, request: Request, contact: bool) -> State {
 pub(crate) fn block_ticks(
     s: Settings,
     run: Run,
-    request: Request,
+    request: Option<Request>,
     counts: &[i32],
     contact: bool,
 ) -> Run {
@@ -59,7 +59,7 @@ pub(crate) fn block_ticks(
 pub(crate) fn unasked_ticks(
     s: Settings,
     run: Run,
-    request: Request,
+    request: Option<Request>,
     counts: &[i32],
     contact: bool,
 ) -> Run {
@@ -81,19 +81,19 @@ pub(crate) fn unasked_ticks(
 }
 
 // The requests in turn.
-fn request_of(i: usize, points: Setpoints) -> Request {
+fn request_of(i: usize, points: Setpoints) -> Option<Request> {
     match i % 11 {
-        0 => Request::TareClear,
-        1 => Request::ShowNet,
-        2 => Request::ShowGross,
-        3 => Request::Set(points),
-        4 => Request::Start,
-        5 => Request::Stop,
-        6 => Request::TotalClear,
-        7 => Request::Undo,
-        8 => Request::DayClose,
-        9 => Request::Zero,
-        _ => Request::Tare,
+        0 => Some(Request::TareClear),
+        1 => Some(Request::ShowNet),
+        2 => Some(Request::ShowGross),
+        3 => Some(Request::Set(points)),
+        4 => Some(Request::Start),
+        5 => Some(Request::Stop),
+        6 => Some(Request::TotalClear),
+        7 => Some(Request::Undo),
+        8 => Some(Request::DayClose),
+        9 => Some(Request::Zero),
+        _ => Some(Request::Tare),
     }
 }
 

@@ -1,5 +1,5 @@
 -- What a call answers and leaves, by what it was refused with. Assumes nothing.
-use Rattle.std.specs.Prelude.{None, Some, ℤ, ℕ}
+use Rattle.std.specs.Prelude.{None, Some, ℤ, ℕ, Option}
 use Prim.Native.Nat.{ℕ, ◌≤◌}
 use native.Mathlib.Omega.{arith}
 use mathlib.Core.Path.{◌≡◌, refl, sym, ap, ◌∙◌}
@@ -88,7 +88,7 @@ module _ {A : Type 0} (answer : List ℕ) (done kept : A) where
   is_room h = simp (le-leb answer_length (length answer) h)
 
 -- ---- the same ticks, of equal settings, states and inputs
-pub same_input : {a b : ℤ} {r q : Request} (contact : Bool) → a ≡ b → r ≡ q
+pub same_input : {a b : ℤ} {r q : Option Request} (contact : Bool) → a ≡ b → r ≡ q
     → ◌≡◌ {A = Input} (record { count = a; contact = contact; request = r }) (record { count = b; contact = contact; request = q })
 same_input contact e f = λ i. record { count = e i; contact = contact; request = f i }
 

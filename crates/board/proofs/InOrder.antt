@@ -31,54 +31,54 @@ use Rattle.board.specs.AnswerImage.{answer_buffer}
 use Rattle.board.proofs.InTwo.{with_closed, in_two}
 
 -- ---- what the request that is done tells
-pub granted_by : (st : State) (x : Weights) (d : Request) → left_of (Ok tt) (granted_of st x d).state (held_by d) (keyed_by d) (granted_of st x d).closed ≡ granted_of st x d
+pub granted_by : (st : State) (x : Weights) (d : Option Request) → left_of (Ok tt) (granted_of st x d).state (held_by d) (keyed_by d) (granted_of st x d).closed ≡ granted_of st x d
 unfolding granted_of
-granted_by st x request.Nothing = refl
-granted_by st x request.Zero = refl
-granted_by st x request.Tare = refl
-granted_by st x request.TareClear = refl
-granted_by st x request.Start = refl
-granted_by st x request.Stop = refl
-granted_by st x (request.Set p) = refl
-granted_by st x request.TotalClear = refl
-granted_by st x request.Undo = refl
-granted_by st x request.ShowGross = refl
-granted_by st x request.ShowNet = refl
-granted_by st x request.DayClose = refl
-granted_by st x request.Discharge = refl
+granted_by st x None = refl
+granted_by st x (Some request.Zero) = refl
+granted_by st x (Some request.Tare) = refl
+granted_by st x (Some request.TareClear) = refl
+granted_by st x (Some request.Start) = refl
+granted_by st x (Some request.Stop) = refl
+granted_by st x (Some (request.Set p)) = refl
+granted_by st x (Some request.TotalClear) = refl
+granted_by st x (Some request.Undo) = refl
+granted_by st x (Some request.ShowGross) = refl
+granted_by st x (Some request.ShowNet) = refl
+granted_by st x (Some request.DayClose) = refl
+granted_by st x (Some request.Discharge) = refl
 
 -- ---- a request is done in two: settled, and turned
-pub batch_granted : (st : State) (x : Weights) (d : Request) → batch_done (granted_of st x (beside_batch d)).state d ≡ (granted_of st x d).state
+pub batch_granted : (st : State) (x : Weights) (d : Option Request) → batch_done (granted_of st x (beside_batch d)).state d ≡ (granted_of st x d).state
 unfolding granted_of
-batch_granted st x request.Nothing = refl
-batch_granted st x request.Zero = refl
-batch_granted st x request.Tare = refl
-batch_granted st x request.TareClear = refl
-batch_granted st x request.Start = refl
-batch_granted st x request.Stop = refl
-batch_granted st x (request.Set p) = refl
-batch_granted st x request.TotalClear = refl
-batch_granted st x request.Undo = refl
-batch_granted st x request.ShowGross = refl
-batch_granted st x request.ShowNet = refl
-batch_granted st x request.DayClose = refl
-batch_granted st x request.Discharge = refl
+batch_granted st x None = refl
+batch_granted st x (Some request.Zero) = refl
+batch_granted st x (Some request.Tare) = refl
+batch_granted st x (Some request.TareClear) = refl
+batch_granted st x (Some request.Start) = refl
+batch_granted st x (Some request.Stop) = refl
+batch_granted st x (Some (request.Set p)) = refl
+batch_granted st x (Some request.TotalClear) = refl
+batch_granted st x (Some request.Undo) = refl
+batch_granted st x (Some request.ShowGross) = refl
+batch_granted st x (Some request.ShowNet) = refl
+batch_granted st x (Some request.DayClose) = refl
+batch_granted st x (Some request.Discharge) = refl
 
-pub batch_closed : (st : State) (x : Weights) (d : Request) → (granted_of st x (beside_batch d)).closed ≡ (granted_of st x d).closed
+pub batch_closed : (st : State) (x : Weights) (d : Option Request) → (granted_of st x (beside_batch d)).closed ≡ (granted_of st x d).closed
 unfolding granted_of
-batch_closed st x request.Nothing = refl
-batch_closed st x request.Zero = refl
-batch_closed st x request.Tare = refl
-batch_closed st x request.TareClear = refl
-batch_closed st x request.Start = refl
-batch_closed st x request.Stop = refl
-batch_closed st x (request.Set p) = refl
-batch_closed st x request.TotalClear = refl
-batch_closed st x request.Undo = refl
-batch_closed st x request.ShowGross = refl
-batch_closed st x request.ShowNet = refl
-batch_closed st x request.DayClose = refl
-batch_closed st x request.Discharge = refl
+batch_closed st x None = refl
+batch_closed st x (Some request.Zero) = refl
+batch_closed st x (Some request.Tare) = refl
+batch_closed st x (Some request.TareClear) = refl
+batch_closed st x (Some request.Start) = refl
+batch_closed st x (Some request.Stop) = refl
+batch_closed st x (Some (request.Set p)) = refl
+batch_closed st x (Some request.TotalClear) = refl
+batch_closed st x (Some request.Undo) = refl
+batch_closed st x (Some request.ShowGross) = refl
+batch_closed st x (Some request.ShowNet) = refl
+batch_closed st x (Some request.DayClose) = refl
+batch_closed st x (Some request.Discharge) = refl
 
 -- ---- what the weights tell of the count that they were made from
 pub raw_again : (s : Settings) (q : Stability) (w : Weighing) (r : Option ℤ) (contact : Bool) → raw_in (weigh_of s q w r contact) ≡ r
@@ -92,7 +92,7 @@ contact_again s q w None contact = refl
 contact_again s q w (Some t) contact = refl
 
 -- ---- the tick: x are the weights of steps 1 to 3, o the ruling, d the request that is done, x' the weights again
-module _ (s : Settings) (st : State) (i : Input) (x : Weights) (o : Result (Unit {0}) Refusal) (d : Request) (x' : Weights) where
+module _ (s : Settings) (st : State) (i : Input) (x : Weights) (o : Result (Unit {0}) Refusal) (d : Option Request) (x' : Weights) where
   abbrev raws : Option ℤ
   raws = raw_of s.calibration i.count
 
@@ -147,7 +147,7 @@ pub record Ran (s : Settings) (st : State) (i : Input) (o : Result (Unit {0}) Re
   pub next : image ≡ image_of (tick_of s st i).state
   pub shown : answer ≡ answer_buffer told length (tick_of s st i).answer blank
 
-module _ (s : Settings) (st : State) (i : Input) (x : Weights) (o : Result (Unit {0}) Refusal) (d : Request) (x' : Weights) (told length : ℕ) (blank image day answer : List ℕ) where
+module _ (s : Settings) (st : State) (i : Input) (x : Weights) (o : Result (Unit {0}) Refusal) (d : Option Request) (x' : Weights) (told length : ℕ) (blank image day answer : List ℕ) where
   pub leaves : x ≡ weights_of s (entered_of s st (raw_of s.calibration i.count) i.contact) (raw_of s.calibration i.count) i.contact
       → o ≡ ruling_of s (entered_of s st (raw_of s.calibration i.count) i.contact) x i.request
       → d ≡ grant_of o i.request
@@ -180,7 +180,7 @@ module _ (s : Settings) (st : State) (count : ℤ) (contact : Bool) (x : Weights
   askedNothing = pick_state false moved (stepped_of s moved x)
 
   module _ (ex : x ≡ weights_of s begun (raw_of s.calibration count) contact) where
-    done : (Ok tt) ≡ ruling_of s begun x request.Nothing
+    done : (Ok tt) ≡ ruling_of s begun x None
     unfolding ruling_of
     done = refl
 
@@ -192,11 +192,11 @@ module _ (s : Settings) (st : State) (count : ℤ) (contact : Bool) (x : Weights
 
     pub unasked-next : askedNothing ≡ next_of s st (unasked_of count contact)
     unfolding granted_of
-    unasked-next = ran-next s st (unasked_of count contact) x (Ok tt) request.Nothing x ex done refl again
+    unasked-next = ran-next s st (unasked_of count contact) x (Ok tt) None x ex done refl again
 
     pub unasked-leaves : (told length : ℕ) (blank image day answer : List ℕ) → Holds image askedNothing → day ≡ closed_put None blank
         → answer ≡ outputs_put told length (outputs_of s (answered_of (Ok tt) None askedNothing) x askedNothing) day
         → Ran s st (unasked_of count contact) (Ok tt) told length blank image answer
     unfolding granted_of
     unasked-leaves told length blank image day answer h eb ea =
-        leaves s st (unasked_of count contact) x (Ok tt) request.Nothing x told length blank image day answer ex done refl again h eb ea
+        leaves s st (unasked_of count contact) x (Ok tt) None x told length blank image day answer ex done refl again h eb ea

@@ -1,5 +1,5 @@
 -- The reply that is due to a line, made before anything of it is done, and the tick with a line of both. Assumes nothing.
-use Rattle.std.specs.Prelude.{Result, Ok, ℤ, ℕ, Err, Option, Some}
+use Rattle.std.specs.Prelude.{Result, Ok, ℤ, ℕ, Err, Option, Some, None}
 use Prim.Native.Nat.{ℕ}
 use mathlib.Core.Path.{◌≡◌, refl, ap, ◌∙◌}
 use mathlib.Core.Bool.{Bool}
@@ -72,7 +72,7 @@ module _ (a b : State) (x : Reading) (o : Result (Unit {0}) Refusal) (ep : a.pan
 
 -- ---- it shows a weight to a read alone, which asks for nothing
 module _ (st : State) (x y : Reading) (o : Result (Unit {0}) Refusal) where
-  word_weighed : (w : Word) → (word_request w ≡ request.Nothing → x ≡ y) → word_reply w st x o ≡ word_reply w st y o
+  word_weighed : (w : Word) → (word_request w ≡ None → x ≡ y) → word_reply w st x o ≡ word_reply w st y o
   word_weighed word.ReadWeight e = ap (λ (r : Reading). Some (reply.Weight (shown_of st.panel.display r))) (e refl)
   word_weighed word.ReadTotal e = refl
   word_weighed word.ReadSetpoints e = refl
@@ -88,7 +88,7 @@ module _ (st : State) (x y : Reading) (o : Result (Unit {0}) Refusal) where
   word_weighed word.DayClose e = refl
   word_weighed word.Discharge e = refl
 
-  pub due_weighed : (c : Result Order LineFault) → (request_of c ≡ request.Nothing → x ≡ y) → reply_due c st x o ≡ reply_due c st y o
+  pub due_weighed : (c : Result Order LineFault) → (request_of c ≡ None → x ≡ y) → reply_due c st x o ≡ reply_due c st y o
   unfolding reply_due request_of
   due_weighed (Ok (order.Do w)) e = word_weighed w e
   due_weighed (Ok (order.Set p)) e = refl
@@ -106,7 +106,7 @@ pub record Lined (s : Settings) (st : State) (count : ℤ) (contact : Bool) (rec
   pub replied : after ≡ reply_buffer s st count contact receive buffer
   pub shown : answer ≡ answer_buffer (told_number (line_tick_of s st count contact receive buffer).told) (line_tick_of s st count contact receive buffer).length (line_tick_of s st count contact receive buffer).answer blank
 
-module _ (s : Settings) (st : State) (count : ℤ) (contact : Bool) (receive buffer : List ℕ) (c : Result Order LineFault) (q : Request) (x : Weights) (o : Result (Unit {0}) Refusal) (wrote : Wrote) (after : List ℕ)
+module _ (s : Settings) (st : State) (count : ℤ) (contact : Bool) (receive buffer : List ℕ) (c : Result Order LineFault) (q : Option Request) (x : Weights) (o : Result (Unit {0}) Refusal) (wrote : Wrote) (after : List ℕ)
     (ec : c ≡ command_of receive s.address) (er : q ≡ request_of c) where
   abbrev asked : Input
   asked = input_of count contact q
@@ -118,7 +118,7 @@ module _ (s : Settings) (st : State) (count : ℤ) (contact : Bool) (receive buf
   tick = tick_of s st asked
 
   module _ (ex : x ≡ weights_of s entered (raw_of s.calibration count) contact) (eo : o ≡ ruling_of s entered x q) where
-    weighed : request_of c ≡ request.Nothing → reading_of x ≡ tick.answer.reading
+    weighed : request_of c ≡ None → reading_of x ≡ tick.answer.reading
     unfolding tick_of outputs_of served_of settled_of decided_of ruling_of granted_of
     weighed e = simp (er ∙ e, ex)
 

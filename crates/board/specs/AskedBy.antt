@@ -1,5 +1,5 @@
 -- What a tick is asked by a number: docs/IMAGES.md, 'Requests by number'. The numbers are the house's.
-use Rattle.std.specs.Prelude.{ℕ, List, Bool, cond, eqb, leb, length, get_or}
+use Rattle.std.specs.Prelude.{ℕ, List, Bool, cond, eqb, leb, length, get_or, Option, None, Some}
 use Rattle.types.specs.declared.stages.Setpoints.{Setpoints}
 use Rattle.types.specs.declared.requests.Request.{Request}
 use Rattle.types.specs.declared.requests.Request.TheVariants as request
@@ -32,17 +32,17 @@ points_of points = record {
 }
 
 -- one that is no request answers 13, and the tick runs as one that is asked nothing
-unfoldable pub request_by : ℕ → List ℕ → Request
+unfoldable pub request_by : ℕ → List ℕ → Option Request
 request_by n points =
-    cond (eqb n 1) request.Zero
-    (cond (eqb n 2) request.Tare
-    (cond (eqb n 3) request.TareClear
-    (cond (eqb n 4) request.Start
-    (cond (eqb n 5) request.Stop
-    (cond (eqb n set_number) (cond (eqb (length points) point_count) (request.Set (points_of points)) request.Nothing)
-    (cond (eqb n 7) request.TotalClear
-    (cond (eqb n 8) request.Undo
-    (cond (eqb n 9) request.ShowGross
-    (cond (eqb n 10) request.ShowNet
-    (cond (eqb n 11) request.DayClose
-    (cond (eqb n last_number) request.Discharge request.Nothing)))))))))))
+    cond (eqb n 1) (Some request.Zero)
+    (cond (eqb n 2) (Some request.Tare)
+    (cond (eqb n 3) (Some request.TareClear)
+    (cond (eqb n 4) (Some request.Start)
+    (cond (eqb n 5) (Some request.Stop)
+    (cond (eqb n set_number) (cond (eqb (length points) point_count) (Some (request.Set (points_of points))) None)
+    (cond (eqb n 7) (Some request.TotalClear)
+    (cond (eqb n 8) (Some request.Undo)
+    (cond (eqb n 9) (Some request.ShowGross)
+    (cond (eqb n 10) (Some request.ShowNet)
+    (cond (eqb n 11) (Some request.DayClose)
+    (cond (eqb n last_number) (Some request.Discharge) None)))))))))))

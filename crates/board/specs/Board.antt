@@ -1,5 +1,5 @@
 -- What each C call answers, and every byte of each buffer after it. l is the settings image, t the state image.
-use Rattle.std.specs.Prelude.{ℕ, List, Bool, cond, eqb, leb, length, ℤ}
+use Rattle.std.specs.Prelude.{ℕ, List, Bool, cond, eqb, leb, length, ℤ, Option}
 use Rattle.types.specs.declared.settings.Given.{Given}
 use Rattle.types.specs.declared.settings.Settings.{Settings}
 use Rattle.types.specs.declared.requests.Request.{Request}
@@ -81,7 +81,7 @@ abbrev pub room_buffer : ℕ → ℕ → Answer → List ℕ → List ℕ
 room_buffer n size a answer = if_room answer (answer_buffer n size a answer) answer
 
 -- ---- tick
-abbrev pub input_of : ℤ → Bool → Request → Input
+abbrev pub input_of : ℤ → Bool → Option Request → Input
 input_of count contact request = record { count = count; contact = contact; request = request }
 
 abbrev pub input_by : ℤ → Bool → ℕ → List ℕ → Input

@@ -22,43 +22,43 @@ unfoldable pub raw_in : Weights → Option ℤ
 raw_in x = cond x.good (Some x.raw) None
 
 -- step 6 is passed over
-abbrev pub held_by : Request → Bool
+abbrev pub held_by : Option Request → Bool
 held_by r = (request_kind r).skips
 
 -- a zero was keyed
-abbrev pub keyed_by : Request → Bool
+abbrev pub keyed_by : Option Request → Bool
 keyed_by r = (request_kind r).zeroes
 
 -- the request but for those of the batch, which turn the sequence or write setpoints, and what these make of the state
-abbrev pub beside_batch : Request → Request
-beside_batch request.Nothing = request.Nothing
-beside_batch request.Zero = request.Zero
-beside_batch request.Tare = request.Tare
-beside_batch request.TareClear = request.TareClear
-beside_batch request.Start = request.Nothing
-beside_batch request.Stop = request.Nothing
-beside_batch (request.Set p) = request.Nothing
-beside_batch request.TotalClear = request.TotalClear
-beside_batch request.Undo = request.Undo
-beside_batch request.ShowGross = request.ShowGross
-beside_batch request.ShowNet = request.ShowNet
-beside_batch request.DayClose = request.DayClose
-beside_batch request.Discharge = request.Nothing
+abbrev pub beside_batch : Option Request → Option Request
+beside_batch None = None
+beside_batch (Some request.Zero) = Some request.Zero
+beside_batch (Some request.Tare) = Some request.Tare
+beside_batch (Some request.TareClear) = Some request.TareClear
+beside_batch (Some request.Start) = None
+beside_batch (Some request.Stop) = None
+beside_batch (Some (request.Set p)) = None
+beside_batch (Some request.TotalClear) = Some request.TotalClear
+beside_batch (Some request.Undo) = Some request.Undo
+beside_batch (Some request.ShowGross) = Some request.ShowGross
+beside_batch (Some request.ShowNet) = Some request.ShowNet
+beside_batch (Some request.DayClose) = Some request.DayClose
+beside_batch (Some request.Discharge) = None
 
-abbrev pub batch_done : State → Request → State
-batch_done st request.Nothing = st
-batch_done st request.Zero = st
-batch_done st request.Tare = st
-batch_done st request.TareClear = st
-batch_done st request.Start = with_sequence st start_sequence
-batch_done st request.Stop = stopped_of st
-batch_done st (request.Set p) = stored_of st p
-batch_done st request.TotalClear = st
-batch_done st request.Undo = st
-batch_done st request.ShowGross = st
-batch_done st request.ShowNet = st
-batch_done st request.DayClose = st
-batch_done st request.Discharge = with_sequence st (discharge_sequence st.sequence)
+abbrev pub batch_done : State → Option Request → State
+batch_done st None = st
+batch_done st (Some request.Zero) = st
+batch_done st (Some request.Tare) = st
+batch_done st (Some request.TareClear) = st
+batch_done st (Some request.Start) = with_sequence st start_sequence
+batch_done st (Some request.Stop) = stopped_of st
+batch_done st (Some (request.Set p)) = stored_of st p
+batch_done st (Some request.TotalClear) = st
+batch_done st (Some request.Undo) = st
+batch_done st (Some request.ShowGross) = st
+batch_done st (Some request.ShowNet) = st
+batch_done st (Some request.DayClose) = st
+batch_done st (Some request.Discharge) = with_sequence st (discharge_sequence st.sequence)
 
 -- ---- the answer in two: the closed day, put where step 4 closes it, and all the rest, put at the end
 abbrev pub closed_rows : List Place

@@ -49,47 +49,47 @@ fn points_of(points: &[u32]) -> Setpoints
 }
 
 // A number that is no request asks nothing.
-pub(crate) fn request_by(n: u32, points: &[u32]) -> Request
+pub(crate) fn request_by(n: u32, points: &[u32]) -> Option<Request>
     ensures { result ≡ request_by n points.now }
 {
     if n == 1 {
-        return Request::Zero;
+        return Some(Request::Zero);
     }
     if n == 2 {
-        return Request::Tare;
+        return Some(Request::Tare);
     }
     if n == 3 {
-        return Request::TareClear;
+        return Some(Request::TareClear);
     }
     if n == 4 {
-        return Request::Start;
+        return Some(Request::Start);
     }
     if n == 5 {
-        return Request::Stop;
+        return Some(Request::Stop);
     }
     if n == SET_NUMBER {
         if points.len() == POINT_COUNT {
-            return Request::Set(points_of(points));
+            return Some(Request::Set(points_of(points)));
         }
-        return Request::Nothing;
+        return None;
     }
     if n == 7 {
-        return Request::TotalClear;
+        return Some(Request::TotalClear);
     }
     if n == 8 {
-        return Request::Undo;
+        return Some(Request::Undo);
     }
     if n == 9 {
-        return Request::ShowGross;
+        return Some(Request::ShowGross);
     }
     if n == 10 {
-        return Request::ShowNet;
+        return Some(Request::ShowNet);
     }
     if n == 11 {
-        return Request::DayClose;
+        return Some(Request::DayClose);
     }
     if n == LAST_NUMBER {
-        return Request::Discharge;
+        return Some(Request::Discharge);
     }
-    Request::Nothing
+    None
 }

@@ -177,7 +177,7 @@ fn run_tick(
     s: Settings,
     count: i32,
     contact: bool,
-    request: Request,
+    request: Option<Request>,
     known: bool,
     state: &mut [u8],
     answer: &mut [u8],

@@ -70,7 +70,7 @@ pub(crate) fn again(s: Settings, x: Weights, state: &[u8]) -> Weights
 }
 
 // 4. The ruling: accepted, or refused with its number.
-pub(crate) fn ruled(s: Settings, x: Weights, request: Request, state: &[u8]) -> Result<(), Refusal>
+pub(crate) fn ruled(s: Settings, x: Weights, request: Option<Request>, state: &[u8]) -> Result<(), Refusal>
     ensures { Tells state.now (λ (st : State). result ≡ ruling_of s st x request) }
 {
     let batching = s.batching;
@@ -214,61 +214,61 @@ fn take_back(state: &mut [u8])
 
 // 4. What is done of the request, d, but for those that `settle_batch` has: it changes at most one part of the state. A day that it closes
 // goes into the answer. What reads a part before it writes it is a function of its own above, so that here each request is one line.
-pub(crate) fn settle(d: Request, x: Weights, state: &mut [u8], answer: &mut [u8])
+pub(crate) fn settle(d: Option<Request>, x: Weights, state: &mut [u8], answer: &mut [u8])
     ensures state { Turns state.old state.new (λ (st : State). (granted_of st x (beside_batch d)).state) }
     ensures day { Tells state.old (λ (st : State).
         answer.new ≡ closed_put (granted_of st x (beside_batch d)).closed answer.old) }
 {
     put_none(answer);
     match d {
-        Request::Nothing => return,
-        Request::Zero => return key_zero(x.raw, state),
-        Request::Tare => return put_tare(x.gross, state),
-        Request::TareClear => return put_tare(0, state),
-        Request::Start => return,
-        Request::Stop => return,
-        Request::Set(_) => return,
-        Request::TotalClear => return put_totals(state, totals::clear_totals()),
-        Request::Undo => return take_back(state),
-        Request::ShowGross => return show(Display::Gross, state),
-        Request::ShowNet => return show(Display::Net, state),
-        Request::DayClose => return close(state, answer),
-        Request::Discharge => return,
+        None => return,
+        Some(Request::Zero) => return key_zero(x.raw, state),
+        Some(Request::Tare) => return put_tare(x.gross, state),
+        Some(Request::TareClear) => return put_tare(0, state),
+        Some(Request::Start) => return,
+        Some(Request::Stop) => return,
+        Some(Request::Set(_)) => return,
+        Some(Request::TotalClear) => return put_totals(state, totals::clear_totals()),
+        Some(Request::Undo) => return take_back(state),
+        Some(Request::ShowGross) => return show(Display::Gross, state),
+        Some(Request::ShowNet) => return show(Display::Net, state),
+        Some(Request::DayClose) => return close(state, answer),
+        Some(Request::Discharge) => return,
     }
 }
 
 // 4. The requests of the batch, which turn the sequence or write setpoints. They stand apart from the others so that not both frames are
 // held at once.
-pub(crate) fn settle_batch(d: Request, state: &mut [u8])
+pub(crate) fn settle_batch(d: Option<Request>, state: &mut [u8])
     ensures { Turns state.old state.new (λ (st : State). batch_done st d) }
 {
     match d {
-        Request::Start => return put_sequence(state, batch::sequence::start_sequence()),
-        Request::Stop => return stop(state),
-        Request::Set(p) => return store(p, state),
-        Request::Discharge => return discharge(state),
+        Some(Request::Start) => return put_sequence(state, batch::sequence::start_sequence()),
+        Some(Request::Stop) => return stop(state),
+        Some(Request::Set(p)) => return store(p, state),
+        Some(Request::Discharge) => return discharge(state),
         _ => return,
     }
 }
 
 // Step 6 is passed over where a start, a stop or a discharge was done.
-pub(crate) fn is_held(d: Request) -> bool
+pub(crate) fn is_held(d: Option<Request>) -> bool
     ensures { result ≡ held_by d }
 {
     match d {
-        Request::Start => true,
-        Request::Stop => true,
-        Request::Discharge => true,
+        Some(Request::Start) => true,
+        Some(Request::Stop) => true,
+        Some(Request::Discharge) => true,
         _ => false,
     }
 }
 
 // Tracking begins anew where a zero was keyed.
-pub(crate) fn is_keyed(d: Request) -> bool
+pub(crate) fn is_keyed(d: Option<Request>) -> bool
     ensures { result ≡ keyed_by d }
 {
     match d {
-        Request::Zero => true,
+        Some(Request::Zero) => true,
         _ => false,
     }
 }

@@ -41,22 +41,22 @@ pub fn tick(s: Settings, mut st: State, i: Input) -> Ticked
     let mut keyed = false;
     let mut closed = None;
     match done {
-        Request::Nothing => {}
-        Request::Zero => {
+        None => {}
+        Some(Request::Zero) => {
             st.weighing = zero::zeroed(st.weighing, x.raw);
             keyed = true;
         }
-        Request::Tare => {
+        Some(Request::Tare) => {
             st.weighing = zero::tared(st.weighing, x.gross);
         }
-        Request::TareClear => {
+        Some(Request::TareClear) => {
             st.weighing = zero::tared(st.weighing, 0);
         }
-        Request::Start => {
+        Some(Request::Start) => {
             st.sequence = batch::sequence::start_sequence();
             held = true;
         }
-        Request::Stop => {
+        Some(Request::Stop) => {
             held = true;
             let sequence = st.sequence;
             let stage = sequence.stage;
@@ -67,7 +67,7 @@ pub fn tick(s: Settings, mut st: State, i: Input) -> Ticked
             }
         }
         // Outside 00 a write waits.
-        Request::Set(p) => {
+        Some(Request::Set(p)) => {
             let sequence = st.sequence;
             let stage = sequence.stage;
             if batch::sequence::is_idle(stage) {
@@ -76,30 +76,30 @@ pub fn tick(s: Settings, mut st: State, i: Input) -> Ticked
                 st.waiting = setpoints::waiting::waiting_for(p);
             }
         }
-        Request::TotalClear => {
+        Some(Request::TotalClear) => {
             st.totals = totals::clear_totals();
         }
-        Request::Undo => {
+        Some(Request::Undo) => {
             st.totals = totals::take_back(st.totals);
         }
-        Request::ShowGross => {
+        Some(Request::ShowGross) => {
             let panel = Panel {
                 display: Display::Gross,
             };
             st.panel = panel;
         }
-        Request::ShowNet => {
+        Some(Request::ShowNet) => {
             let panel = Panel {
                 display: Display::Net,
             };
             st.panel = panel;
         }
-        Request::DayClose => {
+        Some(Request::DayClose) => {
             let day = st.book;
             closed = Some(day);
             st.book = daybook::closed_book(day);
         }
-        Request::Discharge => {
+        Some(Request::Discharge) => {
             st.sequence = batch::sequence::discharge_sequence(st.sequence);
             held = true;
         }

@@ -1,5 +1,6 @@
 -- The analog value at the ends, beyond them and between them. For accepted ends x and D are whole numbers of at most 2 ^ 53, and so is 16 x:
 -- nothing is lost before the quotient, and so the ends are exact. Assumes nothing.
+use Rattle.std.specs.Prelude.{Some}
 use mathlib.Core.Path.{◌≡◌, refl, sym, ap, ◌∙◌}
 use Prim.Native.Nat.{ℕ, zero, suc, ◌+◌, ◌*◌, ◌^◌, ◌≤◌, ◌<◌, zero-le}
 use native.Mathlib.Nat.{le_trans, mul-le-mul, mul-one, le_antisymm, le_refl, zero-lt-suc}

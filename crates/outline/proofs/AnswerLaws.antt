@@ -88,23 +88,23 @@ mode_loss mode.Normal = refl
 mode_loss mode.Loss = refl
 
 -- the rows that a request can meet are those of the table whose column "To" names it
-row_number : (s : Settings) (st : State) (x : Weights) (r : Request)
+row_number : (s : Settings) (st : State) (x : Weights) (r : Option Request)
     → numbered (rows_to s.range s.batching.mode st.sequence st.totals x r) ≡ request_due s st x r
-row_number s st x request.Nothing = refl
-row_number s st x request.Zero = simp (stage_idle st.sequence.stage)
-row_number s st x request.Tare = simp (stage_idle st.sequence.stage)
-row_number s st x request.TareClear = simp (stage_idle st.sequence.stage)
-row_number s st x request.Start = simp (stage_idle st.sequence.stage)
-row_number s st x request.Stop = refl
-row_number s st x (request.Set p) = refl
-row_number s st x request.TotalClear = refl
-row_number s st x request.Undo = refl
-row_number s st x request.ShowGross = refl
-row_number s st x request.ShowNet = refl
-row_number s st x request.DayClose = refl
-row_number s st x request.Discharge = simp (stage_idle st.sequence.stage, mode_loss s.batching.mode)
+row_number s st x None = refl
+row_number s st x (Some request.Zero) = simp (stage_idle st.sequence.stage)
+row_number s st x (Some request.Tare) = simp (stage_idle st.sequence.stage)
+row_number s st x (Some request.TareClear) = simp (stage_idle st.sequence.stage)
+row_number s st x (Some request.Start) = simp (stage_idle st.sequence.stage)
+row_number s st x (Some request.Stop) = refl
+row_number s st x (Some (request.Set p)) = refl
+row_number s st x (Some request.TotalClear) = refl
+row_number s st x (Some request.Undo) = refl
+row_number s st x (Some request.ShowGross) = refl
+row_number s st x (Some request.ShowNet) = refl
+row_number s st x (Some request.DayClose) = refl
+row_number s st x (Some request.Discharge) = simp (stage_idle st.sequence.stage, mode_loss s.batching.mode)
 
-ruling_number : (s : Settings) (st : State) (x : Weights) (r : Request) → outcome_number (ruling_of s st x r) ≡ request_due s st x r
+ruling_number : (s : Settings) (st : State) (x : Weights) (r : Option Request) → outcome_number (ruling_of s st x r) ≡ request_due s st x r
 unfolding ruling_of
 ruling_number s st x r = first_number (rows_to s.range s.batching.mode st.sequence st.totals x r) ∙ row_number s st x r
 

@@ -1,5 +1,5 @@
 -- The book of every run is its history's sums, and balances. Assumes nothing.
-use Rattle.std.specs.Prelude.{Some, ℤ}
+use Rattle.std.specs.Prelude.{Some}
 use Prim.Native.Nat.{suc}
 use mathlib.Core.Path.{◌≡◌, refl, sym, ap, ◌∙◌, subst}
 use mathlib.Core.Bool.{Bool, true, false, cond, ◌&&◌}

@@ -29,21 +29,21 @@ close_done true = refl
 close_done false = refl
 
 -- step 4 changes the book at an accepted day close alone
-settled_book : (s : Settings) (st : State) (x : Weights) (r : Request) → (decided_of s st x r).state.book ≡ cond (x.good && (request_kind r).closes) (closed_of st.book) st.book
+settled_book : (s : Settings) (st : State) (x : Weights) (r : Option Request) → (decided_of s st x r).state.book ≡ cond (x.good && (request_kind r).closes) (closed_of st.book) st.book
 unfolding decided_of ruling_of granted_of
-settled_book s st x request.Nothing = simp (and_no, cond_same)
-settled_book s st x request.Zero = simp (and_no, cond_same)
-settled_book s st x request.Tare = simp (and_no, cond_same)
-settled_book s st x request.TareClear = simp (and_no, cond_same)
-settled_book s st x request.Start = simp (and_no, cond_same)
-settled_book s st x request.Stop = simp (and_no, cond_same)
-settled_book s st x (request.Set p) = simp (and_no, cond_same)
-settled_book s st x request.TotalClear = simp (and_no, cond_same)
-settled_book s st x request.Undo = simp (and_no, cond_same)
-settled_book s st x request.ShowGross = simp (and_no, cond_same)
-settled_book s st x request.ShowNet = simp (and_no, cond_same)
-settled_book s st x request.DayClose = simp (and_yes, close_done)
-settled_book s st x request.Discharge = simp (and_no, cond_same)
+settled_book s st x None = simp (and_no, cond_same)
+settled_book s st x (Some request.Zero) = simp (and_no, cond_same)
+settled_book s st x (Some request.Tare) = simp (and_no, cond_same)
+settled_book s st x (Some request.TareClear) = simp (and_no, cond_same)
+settled_book s st x (Some request.Start) = simp (and_no, cond_same)
+settled_book s st x (Some request.Stop) = simp (and_no, cond_same)
+settled_book s st x (Some (request.Set p)) = simp (and_no, cond_same)
+settled_book s st x (Some request.TotalClear) = simp (and_no, cond_same)
+settled_book s st x (Some request.Undo) = simp (and_no, cond_same)
+settled_book s st x (Some request.ShowGross) = simp (and_no, cond_same)
+settled_book s st x (Some request.ShowNet) = simp (and_no, cond_same)
+settled_book s st x (Some request.DayClose) = simp (and_yes, close_done)
+settled_book s st x (Some request.Discharge) = simp (and_no, cond_same)
 
 -- steps 5 and 6 leave it
 ended_book : (s : Settings) (a : Settled) (x : Weights) → (ended_of s a x).book ≡ a.state.book

@@ -48,16 +48,16 @@ weigh_contact s q w None contact = refl
 weigh_contact s q w (Some x) contact = refl
 
 -- ---- a closed tick
-closed_refused : (s : Settings) (st : State) (x : Weights) → x.contact ≡ true → done_of (ruling_of s st x request.Zero) ≡ false
+closed_refused : (s : Settings) (st : State) (x : Weights) → x.contact ≡ true → done_of (ruling_of s st x (Some request.Zero)) ≡ false
 unfolding ruling_of
-closed_refused s st x h = go (done_of (ruling_of s st x request.Zero)) refl
+closed_refused s st x h = go (done_of (ruling_of s st x (Some request.Zero))) refl
   where
-    go : (t : Bool) → done_of (ruling_of s st x request.Zero) ≡ t → t ≡ false
-    go true e = absurd (clash h (none_applies (rows_to s.range s.batching.mode st.sequence st.totals x request.Zero) e).1.1.1.0)
+    go : (t : Bool) → done_of (ruling_of s st x (Some request.Zero)) ≡ t → t ≡ false
+    go true e = absurd (clash h (none_applies (rows_to s.range s.batching.mode st.sequence st.totals x (Some request.Zero)) e).1.1.1.0)
     go false e = refl
 
 closed_eight : (s : Settings) (st : State) (x : Weights) → x.contact ≡ true → fit_of x ≡ true → idle_now st ≡ true
-    → ruling_of s st x request.Zero ≡ Err refusal.ContactClosed
+    → ruling_of s st x (Some request.Zero) ≡ Err refusal.ContactClosed
 unfolding ruling_of
 closed_eight s st x c f i =
     let good = and_left x.good (not x.overload) f in
@@ -89,7 +89,7 @@ module _ (s : Settings) (st : State) (i : Input) (shut : i.contact ≡ true) whe
   unfolding weights_of
   x_closed = weigh_contact s st₂.stability st₂.weighing raw₁ i.contact ∙ shut
 
-  barred : done_of (ruling_of s st₂ x₃ request.Zero) ≡ false
+  barred : done_of (ruling_of s st₂ x₃ (Some request.Zero)) ≡ false
   barred = closed_refused s st₂ x₃ x_closed
 
   closed_zeros : zeros_of (next_of s st i).weighing ≡ record { zero = st.weighing.zero; tracked = st.weighing.tracked; counter = 0 }
@@ -103,7 +103,7 @@ module _ (s : Settings) (st : State) (i : Input) (shut : i.contact ≡ true) whe
       ∙ ap (λ (k : Bool). keyed_zeros k x₃.raw (zeros_of st.weighing)) (none_keyed s st₂ x₃ barred i.request))
 
   -- a refused zero leaves step 3's weights
-  same_weights : i.request ≡ request.Zero → served_of s st i ≡ x₃
+  same_weights : i.request ≡ Some request.Zero → served_of s st i ≡ x₃
   unfolding served_of settled_of decided_of
   same_weights e = simp (e, barred)
 
@@ -113,7 +113,7 @@ module _ (s : Settings) (st : State) (i : Input) (shut : i.contact ≡ true) whe
     zero = ap (λ (z : Zeros). z.zero) closed_zeros;
     tracked = ap (λ (z : Zeros). z.tracked) closed_zeros;
     counter = ap (λ (z : Zeros). z.counter) closed_zeros;
-    refused = λ e. ap (λ (r : Request). done_of (ruling_of s st₂ x₃ r)) e ∙ barred;
+    refused = λ e. ap (λ (r : Option Request). done_of (ruling_of s st₂ x₃ r)) e ∙ barred;
     number = λ e f d. ap (ruling_of s st₂ x₃) e ∙ closed_eight s st₂ x₃ x_closed (ap fit_of (sym (same_weights e)) ∙ f) d;
   }
 
@@ -158,22 +158,22 @@ unfolding weigh_of
 weigh_openly s q w None contact = refl
 weigh_openly s q w (Some x) contact = refl
 
-ruled_openly : (s : Settings) (st : State) (b : Book) (x : Weights) (r : Request) → (r ≡ request.Zero → ⊥)
+ruled_openly : (s : Settings) (st : State) (b : Book) (x : Weights) (r : Option Request) → (r ≡ Some request.Zero → ⊥)
     → ruling_of s (with_book st b) x r ≡ ruling_of s st (openly x) r
 unfolding ruling_of
-ruled_openly s st b x request.Nothing n = refl
-ruled_openly s st b x request.Zero n = absurd (n refl)
-ruled_openly s st b x request.Tare n = refl
-ruled_openly s st b x request.TareClear n = refl
-ruled_openly s st b x request.Start n = refl
-ruled_openly s st b x request.Stop n = refl
-ruled_openly s st b x (request.Set p) n = refl
-ruled_openly s st b x request.TotalClear n = refl
-ruled_openly s st b x request.Undo n = refl
-ruled_openly s st b x request.ShowGross n = refl
-ruled_openly s st b x request.ShowNet n = refl
-ruled_openly s st b x request.DayClose n = refl
-ruled_openly s st b x request.Discharge n = refl
+ruled_openly s st b x None n = refl
+ruled_openly s st b x (Some request.Zero) n = absurd (n refl)
+ruled_openly s st b x (Some request.Tare) n = refl
+ruled_openly s st b x (Some request.TareClear) n = refl
+ruled_openly s st b x (Some request.Start) n = refl
+ruled_openly s st b x (Some request.Stop) n = refl
+ruled_openly s st b x (Some (request.Set p)) n = refl
+ruled_openly s st b x (Some request.TotalClear) n = refl
+ruled_openly s st b x (Some request.Undo) n = refl
+ruled_openly s st b x (Some request.ShowGross) n = refl
+ruled_openly s st b x (Some request.ShowNet) n = refl
+ruled_openly s st b x (Some request.DayClose) n = refl
+ruled_openly s st b x (Some request.Discharge) n = refl
 
 -- what step 4 leaves beside the book and the day that it closed
 abbrev beside_book : Settled → Settled
@@ -185,24 +185,24 @@ beside_book a = record {
   closed = None;
 }
 
-granted_openly : (st : State) (b : Book) (x : Weights) (r : Request)
+granted_openly : (st : State) (b : Book) (x : Weights) (r : Option Request)
     → beside_book (granted_of (with_book st b) x r) ≡ beside_book (granted_of st (openly x) r)
 unfolding granted_of
-granted_openly st b x request.Nothing = refl
-granted_openly st b x request.Zero = refl
-granted_openly st b x request.Tare = refl
-granted_openly st b x request.TareClear = refl
-granted_openly st b x request.Start = refl
-granted_openly st b x request.Stop = refl
-granted_openly st b x (request.Set p) = refl
-granted_openly st b x request.TotalClear = refl
-granted_openly st b x request.Undo = refl
-granted_openly st b x request.ShowGross = refl
-granted_openly st b x request.ShowNet = refl
-granted_openly st b x request.DayClose = refl
-granted_openly st b x request.Discharge = refl
+granted_openly st b x None = refl
+granted_openly st b x (Some request.Zero) = refl
+granted_openly st b x (Some request.Tare) = refl
+granted_openly st b x (Some request.TareClear) = refl
+granted_openly st b x (Some request.Start) = refl
+granted_openly st b x (Some request.Stop) = refl
+granted_openly st b x (Some (request.Set p)) = refl
+granted_openly st b x (Some request.TotalClear) = refl
+granted_openly st b x (Some request.Undo) = refl
+granted_openly st b x (Some request.ShowGross) = refl
+granted_openly st b x (Some request.ShowNet) = refl
+granted_openly st b x (Some request.DayClose) = refl
+granted_openly st b x (Some request.Discharge) = refl
 
-decided_openly : (s : Settings) (st : State) (b : Book) (x : Weights) (r : Request) → (r ≡ request.Zero → ⊥)
+decided_openly : (s : Settings) (st : State) (b : Book) (x : Weights) (r : Option Request) → (r ≡ Some request.Zero → ⊥)
     → beside_book (decided_of s (with_book st b) x r) ≡ beside_book (decided_of s st (openly x) r)
 unfolding decided_of
 decided_openly s st b x r n =
@@ -269,7 +269,7 @@ told_openly s a x st = λ j. record {
   closed = None;
 }
 
-module _ (s : Settings) (st : State) (count : ℤ) (r : Request) (n : r ≡ request.Zero → ⊥) where
+module _ (s : Settings) (st : State) (count : ℤ) (r : Option Request) (n : r ≡ Some request.Zero → ⊥) where
   abbrev raw_at : Option ℤ
   raw_at = raw_of s.calibration count
 

@@ -1,12 +1,10 @@
 -- What was worked by hand of a discharge holds: each figure is computed through the definitions. Assumes nothing.
-use Rattle.std.specs.Prelude.{None}
+use Rattle.std.specs.Prelude.{None, Some}
 use mathlib.Core.Path.{◌≡◌, refl}
 use mathlib.Core.List.{[], ◌∷◌}
 use lib.IntN.{pos}
 use Rattle.types.specs.declared.requests.Request.TheVariants as request
 use Rattle.types.specs.declared.stages.Stage.TheVariants as stage
-use Rattle.types.specs.declared.stages.Judgement.TheVariants as judgement
-use Rattle.types.specs.declared.stages.SequenceError.TheVariants as error
 use Rattle.whole.specs.Nearest.{nearest_n, nearest_of}
 use Rattle.whole.specs.Limit.{limit_to}
 use Rattle.outline.specs.Settings.{counts_fit, capacity_fits, division_fits, zero_range_fits, tracking_fits, stability_fits, mode_fits, delays_fit, flow_fits, address_fits, analog_fits, discharge_fits, settings_fit, settings_of, open_of}
@@ -28,7 +26,7 @@ use Rattle.outline.specs.DischargeFigures.{settings_out, before, course_from, dr
 stopped :
     course_from (settings_out 0 0 6000)
     (with_sequence before (record { stage = stage.SmallDisable 0; clock = 0; error = None; judgement = None }))
-    (leg 1 (pos 0) request.Stop ∷ drained 1 2)
+    (leg 1 (pos 0) (Some request.Stop) ∷ drained 1 2)
     ≡ record {
       stages = 0 ∷ 14 ∷ 15 ∷ 16 ∷ 0 ∷ [];
       gates = shut ∷ shut ∷ emptying ∷ emptying ∷ shut ∷ [];

@@ -186,28 +186,28 @@ module _ (s : Settings) (st : State) (x : Weights) (d : discharging_of st.sequen
   stays = record { judgement = refl; under_way = λ e. d }
 
   -- row 3 applies
-  refused : (r : Request) → not (idle_of st.sequence.stage) ≡ false → ⊥
+  refused : (r : Option Request) → not (idle_of st.sequence.stage) ≡ false → ⊥
   refused r e = clash (not-false _ e) (not_idle st.sequence.stage d)
 
-  granted_left : (r : Request) → done_of (ruling_of s st x r) ≡ true → Left st.sequence (granted_of st x r).held (granted_of st x r).state.sequence
+  granted_left : (r : Option Request) → done_of (ruling_of s st x r) ≡ true → Left st.sequence (granted_of st x r).held (granted_of st x r).state.sequence
   unfolding granted_of ruling_of
-  granted_left request.Nothing e = stays
-  granted_left request.Zero e = stays
-  granted_left request.Tare e = stays
-  granted_left request.TareClear e = stays
-  granted_left request.Start e =
-      absurd (refused request.Start (none_applies (rows_to s.range s.batching.mode st.sequence st.totals x request.Start) e).1.1.0)
-  granted_left request.Stop e = record { judgement = stop_keeps st.sequence; under_way = λ k. absurd (clash refl k) }
-  granted_left (request.Set p) e = stays
-  granted_left request.TotalClear e = stays
-  granted_left request.Undo e = stays
-  granted_left request.ShowGross e = stays
-  granted_left request.ShowNet e = stays
-  granted_left request.DayClose e = stays
-  granted_left request.Discharge e =
-      absurd (refused request.Discharge (none_applies (rows_to s.range s.batching.mode st.sequence st.totals x request.Discharge) e).1.1.0)
+  granted_left None e = stays
+  granted_left (Some request.Zero) e = stays
+  granted_left (Some request.Tare) e = stays
+  granted_left (Some request.TareClear) e = stays
+  granted_left (Some request.Start) e =
+      absurd (refused (Some request.Start) (none_applies (rows_to s.range s.batching.mode st.sequence st.totals x (Some request.Start)) e).1.1.0)
+  granted_left (Some request.Stop) e = record { judgement = stop_keeps st.sequence; under_way = λ k. absurd (clash refl k) }
+  granted_left (Some (request.Set p)) e = stays
+  granted_left (Some request.TotalClear) e = stays
+  granted_left (Some request.Undo) e = stays
+  granted_left (Some request.ShowGross) e = stays
+  granted_left (Some request.ShowNet) e = stays
+  granted_left (Some request.DayClose) e = stays
+  granted_left (Some request.Discharge) e =
+      absurd (refused (Some request.Discharge) (none_applies (rows_to s.range s.batching.mode st.sequence st.totals x (Some request.Discharge)) e).1.1.0)
 
-  decided_left : (r : Request) → Left st.sequence (decided_of s st x r).held (decided_of s st x r).state.sequence
+  decided_left : (r : Option Request) → Left st.sequence (decided_of s st x r).held (decided_of s st x r).state.sequence
   unfolding decided_of
   decided_left r = go (done_of (ruling_of s st x r)) refl
     where
@@ -231,17 +231,17 @@ goes_on s st i d =
     }
 
 -- the tick that begins it, settled
-begun : (st : State) (x : Weights) (r : Request) → r ≡ request.Discharge → (o : Result (Unit {0}) Refusal) → o ≡ Ok tt
+begun : (st : State) (x : Weights) (r : Option Request) → r ≡ Some request.Discharge → (o : Result (Unit {0}) Refusal) → o ≡ Ok tt
     → Left st.sequence (done_of o && (granted_of st x r).held) (cond (done_of o) (granted_of st x r).state.sequence st.sequence)
 unfolding granted_of
 begun st x r er o eo = rw (er, eo) (record { judgement = refl; under_way = λ e. absurd (clash refl e) })
 
-settled_begun : (s : Settings) (st : State) (i : Input) → i.request ≡ request.Discharge → (settled_of s st i).outcome ≡ Ok tt
+settled_begun : (s : Settings) (st : State) (i : Input) → i.request ≡ Some request.Discharge → (settled_of s st i).outcome ≡ Ok tt
     → Left st.sequence (settled_of s st i).held (settled_of s st i).state.sequence
 unfolding settled_of decided_of entered_of
 settled_begun s st i er eo = begun _ _ i.request er _ eo
 
-begins : (s : Settings) (st : State) (i : Input) → i.request ≡ request.Discharge → (settled_of s st i).outcome ≡ Ok tt → Kept s st i
+begins : (s : Settings) (st : State) (i : Input) → i.request ≡ Some request.Discharge → (settled_of s st i).outcome ≡ Ok tt → Kept s st i
 unfolding next_of
 begins s st i er eo =
     let left = settled_begun s st i er eo in

@@ -1,4 +1,5 @@
 -- Two long runs that figures of several files read: each is computed once here, with all that they read of it. Assumes nothing.
+use Rattle.std.specs.Prelude.{None, Some}
 use Prim.Native.Nat.{ℕ}
 use mathlib.Core.Path.{◌≡◌, refl}
 use mathlib.Core.List.{List, ◌++◌}
@@ -37,14 +38,14 @@ of_falls t = record {
   zero = t.state.weighing.zero;
   gross = t.answer.reading.gross;
   used = t.state.book.used;
-  ticket = ticket_after (tick_at settings_a t.state (minus 25) request.DayClose);
+  ticket = ticket_after (tick_at settings_a t.state (minus 25) (Some request.DayClose));
 }
 
 pub falls :
     of_falls
     (tick_at settings_a
-    (held 99 (held 100 (held 100 (held 100 (held 100 (next open_state (pos 0) request.Nothing) (minus 5)) (minus 10)) (minus 15)) (minus 20)) (minus 25))
-    (minus 25) request.Nothing)
+    (held 99 (held 100 (held 100 (held 100 (held 100 (next open_state (pos 0) None) (minus 5)) (minus 10)) (minus 15)) (minus 20)) (minus 25))
+    (minus 25) None)
     ≡ record {
       zero = minus 20;
       gross = minus 1;
@@ -71,18 +72,18 @@ abbrev pub of_batch : State → OfBatch
 of_batch st = record {
   total = st.totals.total;
   count = st.totals.count;
-  undo = outcome_number (told settings_a st (pos 100) request.Undo).outcome;
-  undo_again = outcome_number (told settings_a (next st (pos 100) request.Undo) (pos 100) request.Undo).outcome;
-  undone_total = (next st (pos 100) request.Undo).totals.total;
-  undone_count = (next st (pos 100) request.Undo).totals.count;
+  undo = outcome_number (told settings_a st (pos 100) (Some request.Undo)).outcome;
+  undo_again = outcome_number (told settings_a (next st (pos 100) (Some request.Undo)) (pos 100) (Some request.Undo)).outcome;
+  undone_total = (next st (pos 100) (Some request.Undo)).totals.total;
+  undone_count = (next st (pos 100) (Some request.Undo)).totals.count;
   shown = reply settings_a st (pos 100) (line "RT") 19;
-  ticket = ticket_after (tick_at settings_a st (pos 100) request.DayClose);
+  ticket = ticket_after (tick_at settings_a st (pos 100) (Some request.DayClose));
 }
 
 pub batch :
     of_batch
     (held 103
-    (held 2 (next (next open_state (pos 0) (request.Set (setpoints 10 0 0 0))) (pos 0) request.Start) (pos 0)) (pos 100))
+    (held 2 (next (next open_state (pos 0) (Some (request.Set (setpoints 10 0 0 0)))) (pos 0) (Some request.Start)) (pos 0)) (pos 100))
     ≡ record {
       total = 10;
       count = 1;

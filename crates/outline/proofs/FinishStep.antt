@@ -32,49 +32,49 @@ use Rattle.outline.specs.Ledger.{passed_over, clock_passed, finishes, batch_weig
 use Rattle.outline.proofs.Parts.{and_no, and_yes, clash}
 
 -- ---- step 4: which requests pass step 6 over; the others leave the sequence
-granted_held : (st : State) (x : Weights) (r : Request) → (granted_of st x r).held ≡ (request_kind r).skips
+granted_held : (st : State) (x : Weights) (r : Option Request) → (granted_of st x r).held ≡ (request_kind r).skips
 unfolding granted_of
-granted_held st x request.Nothing = refl
-granted_held st x request.Zero = refl
-granted_held st x request.Tare = refl
-granted_held st x request.TareClear = refl
-granted_held st x request.Start = refl
-granted_held st x request.Stop = refl
-granted_held st x (request.Set p) = refl
-granted_held st x request.TotalClear = refl
-granted_held st x request.Undo = refl
-granted_held st x request.ShowGross = refl
-granted_held st x request.ShowNet = refl
-granted_held st x request.DayClose = refl
-granted_held st x request.Discharge = refl
+granted_held st x None = refl
+granted_held st x (Some request.Zero) = refl
+granted_held st x (Some request.Tare) = refl
+granted_held st x (Some request.TareClear) = refl
+granted_held st x (Some request.Start) = refl
+granted_held st x (Some request.Stop) = refl
+granted_held st x (Some (request.Set p)) = refl
+granted_held st x (Some request.TotalClear) = refl
+granted_held st x (Some request.Undo) = refl
+granted_held st x (Some request.ShowGross) = refl
+granted_held st x (Some request.ShowNet) = refl
+granted_held st x (Some request.DayClose) = refl
+granted_held st x (Some request.Discharge) = refl
 
-granted_sequence : (st : State) (x : Weights) (r : Request) → (request_kind r).skips ≡ false
+granted_sequence : (st : State) (x : Weights) (r : Option Request) → (request_kind r).skips ≡ false
     → (granted_of st x r).state.sequence ≡ st.sequence
 unfolding granted_of
-granted_sequence st x request.Nothing e = refl
-granted_sequence st x request.Zero e = refl
-granted_sequence st x request.Tare e = refl
-granted_sequence st x request.TareClear e = refl
-granted_sequence st x request.Start e = absurd (clash refl e)
-granted_sequence st x request.Stop e = absurd (clash refl e)
-granted_sequence st x (request.Set p) e = refl
-granted_sequence st x request.TotalClear e = refl
-granted_sequence st x request.Undo e = refl
-granted_sequence st x request.ShowGross e = refl
-granted_sequence st x request.ShowNet e = refl
-granted_sequence st x request.DayClose e = refl
-granted_sequence st x request.Discharge e = absurd (clash refl e)
+granted_sequence st x None e = refl
+granted_sequence st x (Some request.Zero) e = refl
+granted_sequence st x (Some request.Tare) e = refl
+granted_sequence st x (Some request.TareClear) e = refl
+granted_sequence st x (Some request.Start) e = absurd (clash refl e)
+granted_sequence st x (Some request.Stop) e = absurd (clash refl e)
+granted_sequence st x (Some (request.Set p)) e = refl
+granted_sequence st x (Some request.TotalClear) e = refl
+granted_sequence st x (Some request.Undo) e = refl
+granted_sequence st x (Some request.ShowGross) e = refl
+granted_sequence st x (Some request.ShowNet) e = refl
+granted_sequence st x (Some request.DayClose) e = refl
+granted_sequence st x (Some request.Discharge) e = absurd (clash refl e)
 
 settled_held : (s : Settings) (st : State) (i : Input) → (settled_of s st i).held ≡ passed_over s st i
 unfolding settled_of decided_of
 settled_held s st i = rw granted_held
 
-unless_skipped : (done : Bool) (st : State) (x : Weights) (r : Request) → done && (request_kind r).skips ≡ false
+unless_skipped : (done : Bool) (st : State) (x : Weights) (r : Option Request) → done && (request_kind r).skips ≡ false
     → cond done (granted_of st x r).state.sequence st.sequence ≡ st.sequence
 unless_skipped true st x r e = granted_sequence st x r e
 unless_skipped false st x r e = refl
 
-decided_sequence : (s : Settings) (st : State) (x : Weights) (r : Request)
+decided_sequence : (s : Settings) (st : State) (x : Weights) (r : Option Request)
     → done_of (decided_of s st x r).outcome && (request_kind r).skips ≡ false
     → (decided_of s st x r).state.sequence ≡ st.sequence
 unfolding decided_of

@@ -1,6 +1,6 @@
 -- Setpoints read back on the line: the reply due to RS is the figures of SS, by the outline's law, and with room it is what the buffer
 -- holds. Assumes nothing.
-use Rattle.std.specs.Prelude.{Result, Ok, ℤ, ℕ}
+use Rattle.std.specs.Prelude.{Result, Ok, ℤ, ℕ, Option, None}
 use Prim.Native.Nat.{ℕ, ◌≤◌}
 use mathlib.Core.Path.{◌≡◌, ap}
 use mathlib.Core.Bool.{Bool, true}
@@ -11,7 +11,6 @@ use borrow.Author.Tests.{le-leb}
 use Rattle.types.specs.declared.requests.Refusal.{Refusal}
 use Rattle.types.specs.declared.settings.Settings.{Settings}
 use Rattle.types.specs.declared.requests.Request.{Request}
-use Rattle.types.specs.declared.requests.Request.TheVariants as request
 use Rattle.types.specs.declared.weight.Weights.{Weights}
 use Rattle.types.specs.declared.machine.State.{State}
 use Rattle.types.specs.declared.machine.Input.{Input}
@@ -19,8 +18,6 @@ use Rattle.types.specs.declared.lines.Word.TheVariants as word
 use Rattle.types.specs.declared.lines.Order.{Order}
 use Rattle.types.specs.declared.lines.LineFault.{LineFault}
 use Rattle.types.specs.declared.lines.Order.TheVariants as order
-use Rattle.types.specs.declared.lines.LineFault.TheVariants as fault
-use Rattle.types.specs.declared.lines.LineRefusal.TheVariants as told
 use Rattle.outline.specs.Requests.{ruling_of, decided_of}
 use Rattle.outline.specs.Tick.{settled_of}
 use Rattle.outline.specs.Lines.{command_of}
@@ -31,15 +28,15 @@ use Rattle.outline.specs.EveryLine.{is_fitting, Replied, ReadBackOnLine}
 use Rattle.outline.proofs.LineEnds.{fits, fits-bytes}
 
 -- a tick that asks for nothing is answered 0
-by_nothing : (s : Settings) (st : State) (x : Weights) (r : Request) → r ≡ request.Nothing → (decided_of s st x r).outcome ≡ Ok tt
+by_nothing : (s : Settings) (st : State) (x : Weights) (r : Option Request) → r ≡ None → (decided_of s st x r).outcome ≡ Ok tt
 unfolding decided_of ruling_of
 by_nothing s st x r e = rw e
 
-settled_nothing : (s : Settings) (st : State) (i : Input) → i.request ≡ request.Nothing → (settled_of s st i).outcome ≡ Ok tt
+settled_nothing : (s : Settings) (st : State) (i : Input) → i.request ≡ None → (settled_of s st i).outcome ≡ Ok tt
 unfolding settled_of
 settled_nothing s st i e = by_nothing s _ _ i.request e
 
-read_asks_nothing : (c : Result Order LineFault) → c ≡ Ok (order.Do word.ReadSetpoints) → request_of c ≡ request.Nothing
+read_asks_nothing : (c : Result Order LineFault) → c ≡ Ok (order.Do word.ReadSetpoints) → request_of c ≡ None
 unfolding request_of
 read_asks_nothing c e = rw e
 

@@ -1,5 +1,5 @@
 -- What a line is answered, by the order of refusals, and that a refused line's tick is the one without a request. Assumes nothing.
-use Rattle.std.specs.Prelude.{Result, Ok, Err, ℤ, ℕ}
+use Rattle.std.specs.Prelude.{Result, Ok, Err, ℤ, ℕ, None}
 use Prim.Native.Nat.{ℕ, ◌≤◌}
 use native.Mathlib.Omega.{arith}
 use mathlib.Core.Path.{◌≡◌, refl, ap, ◌∙◌}
@@ -7,7 +7,6 @@ use mathlib.Core.Bool.{Bool, true, false}
 use mathlib.Core.List.{List}
 use lib.IntN.{ℤ}
 use Rattle.types.specs.declared.settings.Settings.{Settings}
-use Rattle.types.specs.declared.requests.Request.TheVariants as request
 use Rattle.types.specs.declared.requests.Refusal.{Refusal}
 use Rattle.types.specs.declared.requests.Refusal.TheVariants as refusal
 use Rattle.types.specs.declared.machine.State.{State}
@@ -62,7 +61,7 @@ told_answer (Err fault.Malformed) o = refl
 told_answer (Err fault.Unknown) o = refl
 
 -- 11 to 13 are of lines that ask for nothing
-told_unasked : (c : Result Order LineFault) (o : Result (Unit {0}) Refusal) → 11 ≤ told_number (told_of c o) → request_of c ≡ request.Nothing
+told_unasked : (c : Result Order LineFault) (o : Result (Unit {0}) Refusal) → 11 ≤ told_number (told_of c o) → request_of c ≡ None
 unfolding told_of request_of
 told_unasked (Ok (order.Do w)) (Ok tt) h = absurd (omega arith)
 told_unasked (Ok (order.Do w)) (Err n) h = absurd (omega (arith, refusal_small n))

@@ -1,5 +1,5 @@
 -- What holds of the answer of a run's tick holds of that of a tick with a line: the gates, and the day that a DC closes. Assumes nothing.
-use Rattle.std.specs.Prelude.{Option, Result, Ok, ℕ, None}
+use Rattle.std.specs.Prelude.{Option, Result, Ok, ℕ, None, Some}
 use Prim.Native.Nat.{ℕ}
 use native.Mathlib.Omega.{arith}
 use mathlib.Core.Path.{◌≡◌, sym, subst}
@@ -9,14 +9,11 @@ use lib.ListN.{length}
 use Rattle.types.specs.declared.requests.Refusal.{Refusal}
 use Rattle.types.specs.declared.daybook.Book.{Book}
 use Rattle.types.specs.declared.requests.Request.TheVariants as request
-use Rattle.types.specs.declared.stages.SequenceError.TheVariants as error
 use Rattle.types.specs.declared.machine.Answer.{Answer}
 use Rattle.types.specs.declared.lines.Word.TheVariants as word
 use Rattle.types.specs.declared.lines.Order.{Order}
 use Rattle.types.specs.declared.lines.LineFault.{LineFault}
 use Rattle.types.specs.declared.lines.Order.TheVariants as order
-use Rattle.types.specs.declared.lines.LineFault.TheVariants as fault
-use Rattle.types.specs.declared.lines.LineRefusal.TheVariants as told
 use Rattle.types.specs.declared.lines.LineTick.{LineTick}
 use Rattle.outline.specs.Stages.{shut}
 use Rattle.outline.specs.Tick.{outputs_of, tick_of}
@@ -33,7 +30,7 @@ gates_on_line law runs s ok h count contact receive buffer =
     (law s ok h (line_input s (run_of s h) count contact receive buffer))
 
 -- ---- the day that a DC closes
-close_asks : (c : Result Order LineFault) → c ≡ Ok (order.Do word.DayClose) → request_of c ≡ request.DayClose
+close_asks : (c : Result Order LineFault) → c ≡ Ok (order.Do word.DayClose) → request_of c ≡ Some request.DayClose
 unfolding request_of
 close_asks c e = rw e
 

@@ -56,23 +56,23 @@ failed_quiet : (q : Sequence) (e : SequenceError) → quiet_of (failed_of q e) �
 failed_quiet q e = or_second (no_error (Some e)) true refl
 
 -- ---- step 4
-granted_quiet : (st : State) (x : Weights) (r : Request) → quiet_of st.sequence ≡ true → quiet_of (granted_of st x r).state.sequence ≡ true
+granted_quiet : (st : State) (x : Weights) (r : Option Request) → quiet_of st.sequence ≡ true → quiet_of (granted_of st x r).state.sequence ≡ true
 unfolding granted_of stop_sequence
-granted_quiet st x request.Nothing h = h
-granted_quiet st x request.Zero h = h
-granted_quiet st x request.Tare h = h
-granted_quiet st x request.TareClear h = h
-granted_quiet st x request.Start h = refl
-granted_quiet st x request.Stop h = cond_quiet (idle_of st.sequence.stage) _ _ h (failed_quiet st.sequence (stop_error st.sequence.stage))
-granted_quiet st x (request.Set p) h = h
-granted_quiet st x request.TotalClear h = h
-granted_quiet st x request.Undo h = h
-granted_quiet st x request.ShowGross h = h
-granted_quiet st x request.ShowNet h = h
-granted_quiet st x request.DayClose h = h
-granted_quiet st x request.Discharge h = refl
+granted_quiet st x None h = h
+granted_quiet st x (Some request.Zero) h = h
+granted_quiet st x (Some request.Tare) h = h
+granted_quiet st x (Some request.TareClear) h = h
+granted_quiet st x (Some request.Start) h = refl
+granted_quiet st x (Some request.Stop) h = cond_quiet (idle_of st.sequence.stage) _ _ h (failed_quiet st.sequence (stop_error st.sequence.stage))
+granted_quiet st x (Some (request.Set p)) h = h
+granted_quiet st x (Some request.TotalClear) h = h
+granted_quiet st x (Some request.Undo) h = h
+granted_quiet st x (Some request.ShowGross) h = h
+granted_quiet st x (Some request.ShowNet) h = h
+granted_quiet st x (Some request.DayClose) h = h
+granted_quiet st x (Some request.Discharge) h = refl
 
-quiet_settled : (s : Settings) (st : State) (x : Weights) (r : Request) → quiet_of st.sequence ≡ true → quiet_of (decided_of s st x r).state.sequence ≡ true
+quiet_settled : (s : Settings) (st : State) (x : Weights) (r : Option Request) → quiet_of st.sequence ≡ true → quiet_of (decided_of s st x r).state.sequence ≡ true
 unfolding decided_of
 quiet_settled s st x r h = cond_quiet (done_of (ruling_of s st x r)) _ _ (granted_quiet st x r h) h
 

@@ -167,23 +167,23 @@ closed_balanced b = go b.last
 
 -- what a request leaves, with a law P of books that a close keeps
 module _ (P : Book → Type 0) (close : (b : Book) → P b → P (closed_of b)) where
-  granted_book : (st : State) (x : Weights) (r : Request) → P st.book → P (granted_of st x r).state.book
+  granted_book : (st : State) (x : Weights) (r : Option Request) → P st.book → P (granted_of st x r).state.book
   unfolding granted_of
-  granted_book st x request.Nothing h = h
-  granted_book st x request.Zero h = h
-  granted_book st x request.Tare h = h
-  granted_book st x request.TareClear h = h
-  granted_book st x request.Start h = h
-  granted_book st x request.Stop h = h
-  granted_book st x (request.Set p) h = h
-  granted_book st x request.TotalClear h = h
-  granted_book st x request.Undo h = h
-  granted_book st x request.ShowGross h = h
-  granted_book st x request.ShowNet h = h
-  granted_book st x request.DayClose h = close st.book h
-  granted_book st x request.Discharge h = h
+  granted_book st x None h = h
+  granted_book st x (Some request.Zero) h = h
+  granted_book st x (Some request.Tare) h = h
+  granted_book st x (Some request.TareClear) h = h
+  granted_book st x (Some request.Start) h = h
+  granted_book st x (Some request.Stop) h = h
+  granted_book st x (Some (request.Set p)) h = h
+  granted_book st x (Some request.TotalClear) h = h
+  granted_book st x (Some request.Undo) h = h
+  granted_book st x (Some request.ShowGross) h = h
+  granted_book st x (Some request.ShowNet) h = h
+  granted_book st x (Some request.DayClose) h = close st.book h
+  granted_book st x (Some request.Discharge) h = h
 
-  pub settled_book : (s : Settings) (st : State) (x : Weights) (r : Request) → P st.book → P (decided_of s st x r).state.book
+  pub settled_book : (s : Settings) (st : State) (x : Weights) (r : Option Request) → P st.book → P (decided_of s st x r).state.book
   unfolding decided_of
   settled_book s st x r h = cond_in P (done_of (ruling_of s st x r)) (λ e. granted_book st x r h) (λ e. h)
 

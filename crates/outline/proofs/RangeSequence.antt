@@ -144,25 +144,25 @@ unfolding stop_sequence
 stop_in b q h = cond_in (SequenceRange b) (idle_of q.stage) (λ e. h) (λ e. rest_in b (Some (stop_error q.stage)) q.judgement (λ k. h.normal (stop_error_lem q.stage k)))
 
 module _ (s : Settings) (st : State) (x : Weights) (h : SequenceRange s.batching st.sequence) where
-  granted_sequence : (r : Request) → done_of (ruling_of s st x r) ≡ true → SequenceRange s.batching (granted_of st x r).state.sequence
+  granted_sequence : (r : Option Request) → done_of (ruling_of s st x r) ≡ true → SequenceRange s.batching (granted_of st x r).state.sequence
   unfolding granted_of ruling_of
-  granted_sequence request.Nothing e = h
-  granted_sequence request.Zero e = h
-  granted_sequence request.Tare e = h
-  granted_sequence request.TareClear e = h
-  granted_sequence request.Start e = start_in s.batching
-  granted_sequence request.Stop e = stop_in s.batching st.sequence h
-  granted_sequence (request.Set p) e = h
-  granted_sequence request.TotalClear e = h
-  granted_sequence request.Undo e = h
-  granted_sequence request.ShowGross e = h
-  granted_sequence request.ShowNet e = h
-  granted_sequence request.DayClose e = h
-  granted_sequence request.Discharge e =
+  granted_sequence None e = h
+  granted_sequence (Some request.Zero) e = h
+  granted_sequence (Some request.Tare) e = h
+  granted_sequence (Some request.TareClear) e = h
+  granted_sequence (Some request.Start) e = start_in s.batching
+  granted_sequence (Some request.Stop) e = stop_in s.batching st.sequence h
+  granted_sequence (Some (request.Set p)) e = h
+  granted_sequence (Some request.TotalClear) e = h
+  granted_sequence (Some request.Undo) e = h
+  granted_sequence (Some request.ShowGross) e = h
+  granted_sequence (Some request.ShowNet) e = h
+  granted_sequence (Some request.DayClose) e = h
+  granted_sequence (Some request.Discharge) e =
       discharge_in s.batching st.sequence
-      (none_applies (rows_to s.range s.batching.mode st.sequence st.totals x request.Discharge) e).1.1.1.0
+      (none_applies (rows_to s.range s.batching.mode st.sequence st.totals x (Some request.Discharge)) e).1.1.1.0
 
-  settled_sequence : (r : Request) → SequenceRange s.batching (decided_of s st x r).state.sequence
+  settled_sequence : (r : Option Request) → SequenceRange s.batching (decided_of s st x r).state.sequence
   unfolding decided_of
   settled_sequence r = cond_in (SequenceRange s.batching) (done_of (ruling_of s st x r)) (granted_sequence r) (λ e. h)
 

@@ -41,33 +41,33 @@ pub record Fitting (m : Mode) (st : State) : Type 0 where
   pub waits : Waits m st.waiting
 
 module _ (s : Settings) (st : State) (x : Weights) (h : Fitting s.batching.mode st) where
-  granted_fits : (r : Request) → done_of (ruling_of s st x r) ≡ true → Fitting s.batching.mode (granted_of st x r).state
+  granted_fits : (r : Option Request) → done_of (ruling_of s st x r) ≡ true → Fitting s.batching.mode (granted_of st x r).state
   unfolding granted_of ruling_of
-  granted_fits request.Nothing e = h
-  granted_fits request.Zero e = record { used = h.used; waits = h.waits }
-  granted_fits request.Tare e = record { used = h.used; waits = h.waits }
-  granted_fits request.TareClear e = record { used = h.used; waits = h.waits }
-  granted_fits request.Start e = record { used = h.used; waits = h.waits }
-  granted_fits request.Stop e = record {
+  granted_fits None e = h
+  granted_fits (Some request.Zero) e = record { used = h.used; waits = h.waits }
+  granted_fits (Some request.Tare) e = record { used = h.used; waits = h.waits }
+  granted_fits (Some request.TareClear) e = record { used = h.used; waits = h.waits }
+  granted_fits (Some request.Start) e = record { used = h.used; waits = h.waits }
+  granted_fits (Some request.Stop) e = record {
     used =
         cond_in (Fits s.batching.mode) (not (idle_now st))
         (λ k. written_fits s.batching.mode st.waiting st.setpoints h.waits h.used) (λ k. h.used);
     waits = cond_in (Waits s.batching.mode) (not (idle_now st)) (λ k. refl) (λ k. h.waits);
   }
-  granted_fits (request.Set p) e =
-      let kept = not-false _ (none_applies (rows_to s.range s.batching.mode st.sequence st.totals x (request.Set p)) e).0 in
+  granted_fits (Some (request.Set p)) e =
+      let kept = not-false _ (none_applies (rows_to s.range s.batching.mode st.sequence st.totals x (Some (request.Set p))) e).0 in
       record {
         used = cond_in (Fits s.batching.mode) (idle_now st) (λ k. kept) (λ k. h.used);
         waits = cond_in (Waits s.batching.mode) (idle_now st) (λ k. h.waits) (λ k. kept);
       }
-  granted_fits request.TotalClear e = record { used = h.used; waits = h.waits }
-  granted_fits request.Undo e = record { used = h.used; waits = h.waits }
-  granted_fits request.ShowGross e = record { used = h.used; waits = h.waits }
-  granted_fits request.ShowNet e = record { used = h.used; waits = h.waits }
-  granted_fits request.DayClose e = record { used = h.used; waits = h.waits }
-  granted_fits request.Discharge e = record { used = h.used; waits = h.waits }
+  granted_fits (Some request.TotalClear) e = record { used = h.used; waits = h.waits }
+  granted_fits (Some request.Undo) e = record { used = h.used; waits = h.waits }
+  granted_fits (Some request.ShowGross) e = record { used = h.used; waits = h.waits }
+  granted_fits (Some request.ShowNet) e = record { used = h.used; waits = h.waits }
+  granted_fits (Some request.DayClose) e = record { used = h.used; waits = h.waits }
+  granted_fits (Some request.Discharge) e = record { used = h.used; waits = h.waits }
 
-  settled_fits : (r : Request) → Fitting s.batching.mode (decided_of s st x r).state
+  settled_fits : (r : Option Request) → Fitting s.batching.mode (decided_of s st x r).state
   unfolding decided_of
   settled_fits r = record {
     used = cond_in (Fits s.batching.mode) (done_of (ruling_of s st x r)) (λ e. (granted_fits r e).used) (λ e. h.used);

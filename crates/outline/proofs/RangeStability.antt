@@ -31,23 +31,23 @@ steadied_in rule q last (Some raw) = record {
 }
 
 -- the other steps leave it
-granted_stability : (st : State) (x : Weights) (r : Request) → (granted_of st x r).state.stability ≡ st.stability
+granted_stability : (st : State) (x : Weights) (r : Option Request) → (granted_of st x r).state.stability ≡ st.stability
 unfolding granted_of
-granted_stability st x request.Nothing = refl
-granted_stability st x request.Zero = refl
-granted_stability st x request.Tare = refl
-granted_stability st x request.TareClear = refl
-granted_stability st x request.Start = refl
-granted_stability st x request.Stop = refl
-granted_stability st x (request.Set p) = refl
-granted_stability st x request.TotalClear = refl
-granted_stability st x request.Undo = refl
-granted_stability st x request.ShowGross = refl
-granted_stability st x request.ShowNet = refl
-granted_stability st x request.DayClose = refl
-granted_stability st x request.Discharge = refl
+granted_stability st x None = refl
+granted_stability st x (Some request.Zero) = refl
+granted_stability st x (Some request.Tare) = refl
+granted_stability st x (Some request.TareClear) = refl
+granted_stability st x (Some request.Start) = refl
+granted_stability st x (Some request.Stop) = refl
+granted_stability st x (Some (request.Set p)) = refl
+granted_stability st x (Some request.TotalClear) = refl
+granted_stability st x (Some request.Undo) = refl
+granted_stability st x (Some request.ShowGross) = refl
+granted_stability st x (Some request.ShowNet) = refl
+granted_stability st x (Some request.DayClose) = refl
+granted_stability st x (Some request.Discharge) = refl
 
-pub settled_stability : (s : Settings) (st : State) (x : Weights) (r : Request) → (decided_of s st x r).state.stability ≡ st.stability
+pub settled_stability : (s : Settings) (st : State) (x : Weights) (r : Option Request) → (decided_of s st x r).state.stability ≡ st.stability
 unfolding decided_of
 settled_stability s st x r = simp (granted_stability st x r, cond_same)
 

@@ -79,7 +79,7 @@ closed_begun : (b : Book) → b.begun ≡ true → (closed_of b).begun ≡ true
 unfolding closed_of
 closed_begun b e = e
 
-settled_good : (s : Settings) (st : State) (x : Weights) (r : Request) → (decided_of s st x r).state.stability.good ≡ st.stability.good
+settled_good : (s : Settings) (st : State) (x : Weights) (r : Option Request) → (decided_of s st x r).state.stability.good ≡ st.stability.good
 settled_good s st x r = ap (λ (q : Stability). q.good) (settled_stability s st x r)
 
 -- what step 4 leaves; in a bad tick, a request that passes step 6 over goes to stage 00 or stays there
@@ -90,23 +90,23 @@ record Stands (s : Settings) (a : Settled) : Type 0 where
   waits : idle_now a.state ≡ true → a.state.waiting ≡ none_waiting
 
 module _ (s : Settings) (st : State) (x : Weights) where
-  granted_held : (r : Request) → done_of (ruling_of s st x r) ≡ true → (granted_of st x r).held ≡ true → x.good ≡ false → idle_now (granted_of st x r).state ≡ true
+  granted_held : (r : Option Request) → done_of (ruling_of s st x r) ≡ true → (granted_of st x r).held ≡ true → x.good ≡ false → idle_now (granted_of st x r).state ≡ true
   unfolding granted_of ruling_of
-  granted_held request.Nothing d e b = absurd (clash e refl)
-  granted_held request.Zero d e b = absurd (clash e refl)
-  granted_held request.Tare d e b = absurd (clash e refl)
-  granted_held request.TareClear d e b = absurd (clash e refl)
-  granted_held request.Start d e b = absurd (clash (not-false _ (none_applies (rows_to s.range s.batching.mode st.sequence st.totals x request.Start) d).0) b)
-  granted_held request.Stop d e b = stop_idle st.sequence
-  granted_held (request.Set p) d e b = absurd (clash e refl)
-  granted_held request.TotalClear d e b = absurd (clash e refl)
-  granted_held request.Undo d e b = absurd (clash e refl)
-  granted_held request.ShowGross d e b = absurd (clash e refl)
-  granted_held request.ShowNet d e b = absurd (clash e refl)
-  granted_held request.DayClose d e b = absurd (clash e refl)
-  granted_held request.Discharge d e b = absurd (clash (not-false _ (none_applies (rows_to s.range s.batching.mode st.sequence st.totals x request.Discharge) d).0) b)
+  granted_held None d e b = absurd (clash e refl)
+  granted_held (Some request.Zero) d e b = absurd (clash e refl)
+  granted_held (Some request.Tare) d e b = absurd (clash e refl)
+  granted_held (Some request.TareClear) d e b = absurd (clash e refl)
+  granted_held (Some request.Start) d e b = absurd (clash (not-false _ (none_applies (rows_to s.range s.batching.mode st.sequence st.totals x (Some request.Start)) d).0) b)
+  granted_held (Some request.Stop) d e b = stop_idle st.sequence
+  granted_held (Some (request.Set p)) d e b = absurd (clash e refl)
+  granted_held (Some request.TotalClear) d e b = absurd (clash e refl)
+  granted_held (Some request.Undo) d e b = absurd (clash e refl)
+  granted_held (Some request.ShowGross) d e b = absurd (clash e refl)
+  granted_held (Some request.ShowNet) d e b = absurd (clash e refl)
+  granted_held (Some request.DayClose) d e b = absurd (clash e refl)
+  granted_held (Some request.Discharge) d e b = absurd (clash (not-false _ (none_applies (rows_to s.range s.batching.mode st.sequence st.totals x (Some request.Discharge)) d).0) b)
 
-  settled_held : (r : Request) → (decided_of s st x r).held ≡ true → x.good ≡ false → idle_now (decided_of s st x r).state ≡ true
+  settled_held : (r : Option Request) → (decided_of s st x r).held ≡ true → x.good ≡ false → idle_now (decided_of s st x r).state ≡ true
   unfolding decided_of
   settled_held r = go (done_of (ruling_of s st x r)) refl
     where
@@ -115,25 +115,25 @@ module _ (s : Settings) (st : State) (x : Weights) where
       go false d = λ e b. absurd (clash e refl)
 
   module _ (h : flow_fits s.batching.mode st.setpoints st.sequence.stage ≡ true) where
-    granted-flow : (r : Request) → done_of (ruling_of s st x r) ≡ true → flow_fits s.batching.mode (granted_of st x r).state.setpoints (granted_of st x r).state.sequence.stage ≡ true
+    granted-flow : (r : Option Request) → done_of (ruling_of s st x r) ≡ true → flow_fits s.batching.mode (granted_of st x r).state.setpoints (granted_of st x r).state.sequence.stage ≡ true
     unfolding granted_of ruling_of
-    granted-flow request.Nothing d = h
-    granted-flow request.Zero d = h
-    granted-flow request.Tare d = h
-    granted-flow request.TareClear d = h
-    granted-flow request.Start d = refl
-    granted-flow request.Stop d = idle_fits s.batching.mode _ (stop_sequence st.sequence).stage (stop_idle st.sequence)
-    granted-flow (request.Set p) d =
+    granted-flow None d = h
+    granted-flow (Some request.Zero) d = h
+    granted-flow (Some request.Tare) d = h
+    granted-flow (Some request.TareClear) d = h
+    granted-flow (Some request.Start) d = refl
+    granted-flow (Some request.Stop) d = idle_fits s.batching.mode _ (stop_sequence st.sequence).stage (stop_idle st.sequence)
+    granted-flow (Some (request.Set p)) d =
         cond_in (λ (q : Setpoints). flow_fits s.batching.mode q st.sequence.stage ≡ true) (idle_now st)
         (λ e. idle_fits s.batching.mode p st.sequence.stage e) (λ e. h)
-    granted-flow request.TotalClear d = h
-    granted-flow request.Undo d = h
-    granted-flow request.ShowGross d = h
-    granted-flow request.ShowNet d = h
-    granted-flow request.DayClose d = h
-    granted-flow request.Discharge d = refl
+    granted-flow (Some request.TotalClear) d = h
+    granted-flow (Some request.Undo) d = h
+    granted-flow (Some request.ShowGross) d = h
+    granted-flow (Some request.ShowNet) d = h
+    granted-flow (Some request.DayClose) d = h
+    granted-flow (Some request.Discharge) d = refl
 
-    settled-flow : (r : Request) → flow_fits s.batching.mode (decided_of s st x r).state.setpoints (decided_of s st x r).state.sequence.stage ≡ true
+    settled-flow : (r : Option Request) → flow_fits s.batching.mode (decided_of s st x r).state.setpoints (decided_of s st x r).state.sequence.stage ≡ true
     unfolding decided_of
     settled-flow r = go (done_of (ruling_of s st x r)) refl
       where
@@ -143,23 +143,23 @@ module _ (s : Settings) (st : State) (x : Weights) where
         go false d = h
 
     module _ (n : idle_now st ≡ true → st.waiting ≡ none_waiting) where
-      granted_waits : (r : Request) → idle_now (granted_of st x r).state ≡ true → (granted_of st x r).state.waiting ≡ none_waiting
+      granted_waits : (r : Option Request) → idle_now (granted_of st x r).state ≡ true → (granted_of st x r).state.waiting ≡ none_waiting
       unfolding granted_of
-      granted_waits request.Nothing e = n e
-      granted_waits request.Zero e = n e
-      granted_waits request.Tare e = n e
-      granted_waits request.TareClear e = n e
-      granted_waits request.Start e = absurd (clash e refl)
-      granted_waits request.Stop e = cond_in (λ (w : Option Setpoints). w ≡ none_waiting) (not (idle_now st)) (λ k. refl) (λ k. n (not-false _ k))
-      granted_waits (request.Set p) e = rw e (n e)
-      granted_waits request.TotalClear e = n e
-      granted_waits request.Undo e = n e
-      granted_waits request.ShowGross e = n e
-      granted_waits request.ShowNet e = n e
-      granted_waits request.DayClose e = n e
-      granted_waits request.Discharge e = absurd (clash e refl)
+      granted_waits None e = n e
+      granted_waits (Some request.Zero) e = n e
+      granted_waits (Some request.Tare) e = n e
+      granted_waits (Some request.TareClear) e = n e
+      granted_waits (Some request.Start) e = absurd (clash e refl)
+      granted_waits (Some request.Stop) e = cond_in (λ (w : Option Setpoints). w ≡ none_waiting) (not (idle_now st)) (λ k. refl) (λ k. n (not-false _ k))
+      granted_waits (Some (request.Set p)) e = rw e (n e)
+      granted_waits (Some request.TotalClear) e = n e
+      granted_waits (Some request.Undo) e = n e
+      granted_waits (Some request.ShowGross) e = n e
+      granted_waits (Some request.ShowNet) e = n e
+      granted_waits (Some request.DayClose) e = n e
+      granted_waits (Some request.Discharge) e = absurd (clash e refl)
 
-      settled_waits : (r : Request) → idle_now (decided_of s st x r).state ≡ true → (decided_of s st x r).state.waiting ≡ none_waiting
+      settled_waits : (r : Option Request) → idle_now (decided_of s st x r).state ≡ true → (decided_of s st x r).state.waiting ≡ none_waiting
       unfolding decided_of
       settled_waits r = go (done_of (ruling_of s st x r))
         where
@@ -168,7 +168,7 @@ module _ (s : Settings) (st : State) (x : Weights) where
           go true = granted_waits r
           go false = n
 
-    settled-stands : (idle_now st ≡ true → st.waiting ≡ none_waiting) → x.good ≡ st.stability.good → (st.stability.good ≡ true → st.book.begun ≡ true) → (r : Request) → Stands s (decided_of s st x r)
+    settled-stands : (idle_now st ≡ true → st.waiting ≡ none_waiting) → x.good ≡ st.stability.good → (st.stability.good ≡ true → st.book.begun ≡ true) → (r : Option Request) → Stands s (decided_of s st x r)
     settled-stands n g k r =
         let same = settled_good s st x r in
         record {

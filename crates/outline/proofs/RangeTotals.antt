@@ -35,23 +35,23 @@ less_in : (t : Totals) (b : Option ℕ) → TotalsRange t → TotalsRange (less_
 less_in t None h = h
 less_in t (Some v) h = record { total = omega (arith, h.total); count = omega (arith, h.count); back = tt }
 
-granted_totals : (st : State) (x : Weights) (r : Request) → TotalsRange st.totals → TotalsRange (granted_of st x r).state.totals
+granted_totals : (st : State) (x : Weights) (r : Option Request) → TotalsRange st.totals → TotalsRange (granted_of st x r).state.totals
 unfolding granted_of taken_back
-granted_totals st x request.Nothing h = h
-granted_totals st x request.Zero h = h
-granted_totals st x request.Tare h = h
-granted_totals st x request.TareClear h = h
-granted_totals st x request.Start h = h
-granted_totals st x request.Stop h = h
-granted_totals st x (request.Set p) h = h
-granted_totals st x request.TotalClear h = clear_in
-granted_totals st x request.Undo h = less_in st.totals st.totals.back h
-granted_totals st x request.ShowGross h = h
-granted_totals st x request.ShowNet h = h
-granted_totals st x request.DayClose h = h
-granted_totals st x request.Discharge h = h
+granted_totals st x None h = h
+granted_totals st x (Some request.Zero) h = h
+granted_totals st x (Some request.Tare) h = h
+granted_totals st x (Some request.TareClear) h = h
+granted_totals st x (Some request.Start) h = h
+granted_totals st x (Some request.Stop) h = h
+granted_totals st x (Some (request.Set p)) h = h
+granted_totals st x (Some request.TotalClear) h = clear_in
+granted_totals st x (Some request.Undo) h = less_in st.totals st.totals.back h
+granted_totals st x (Some request.ShowGross) h = h
+granted_totals st x (Some request.ShowNet) h = h
+granted_totals st x (Some request.DayClose) h = h
+granted_totals st x (Some request.Discharge) h = h
 
-settled_totals : (s : Settings) (st : State) (x : Weights) (r : Request) → TotalsRange st.totals → TotalsRange (decided_of s st x r).state.totals
+settled_totals : (s : Settings) (st : State) (x : Weights) (r : Option Request) → TotalsRange st.totals → TotalsRange (decided_of s st x r).state.totals
 unfolding decided_of
 settled_totals s st x r h = cond_in TotalsRange (done_of (ruling_of s st x r)) (λ e. granted_totals st x r h) (λ e. h)
 

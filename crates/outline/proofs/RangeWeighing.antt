@@ -110,23 +110,23 @@ tare_in r t w v x h weighed e =
     (N.le_trans weighed.most (N.mul-le-mul_right r.division (most x.divisions r.capacity low high)))
 
 module _ (s : Settings) (st : State) (x : Weights) (weighed : Weighed s.range st.weighing x) (h : In s st.weighing) where
-  granted_weighing : (r : Request) → done_of (ruling_of s st x r) ≡ true → In s (granted_of st x r).state.weighing
+  granted_weighing : (r : Option Request) → done_of (ruling_of s st x r) ≡ true → In s (granted_of st x r).state.weighing
   unfolding granted_of ruling_of
-  granted_weighing request.Nothing e = h
-  granted_weighing request.Zero e = zeroed_in s.range s.tracking st.weighing h x.raw (not-false _ (none_applies (rows_to s.range s.batching.mode st.sequence st.totals x request.Zero) e).1.1.1.1.1.0)
-  granted_weighing request.Tare e = tare_in s.range s.tracking st.weighing st.weighing x h weighed (not-false _ (none_applies (rows_to s.range s.batching.mode st.sequence st.totals x request.Tare) e).1.1.1.1.0)
-  granted_weighing request.TareClear e = tared_in s.range s.tracking st.weighing h (pos 0) refl (omega arith)
-  granted_weighing request.Start e = h
-  granted_weighing request.Stop e = h
-  granted_weighing (request.Set p) e = h
-  granted_weighing request.TotalClear e = h
-  granted_weighing request.Undo e = h
-  granted_weighing request.ShowGross e = h
-  granted_weighing request.ShowNet e = h
-  granted_weighing request.DayClose e = h
-  granted_weighing request.Discharge e = h
+  granted_weighing None e = h
+  granted_weighing (Some request.Zero) e = zeroed_in s.range s.tracking st.weighing h x.raw (not-false _ (none_applies (rows_to s.range s.batching.mode st.sequence st.totals x (Some request.Zero)) e).1.1.1.1.1.0)
+  granted_weighing (Some request.Tare) e = tare_in s.range s.tracking st.weighing st.weighing x h weighed (not-false _ (none_applies (rows_to s.range s.batching.mode st.sequence st.totals x (Some request.Tare)) e).1.1.1.1.0)
+  granted_weighing (Some request.TareClear) e = tared_in s.range s.tracking st.weighing h (pos 0) refl (omega arith)
+  granted_weighing (Some request.Start) e = h
+  granted_weighing (Some request.Stop) e = h
+  granted_weighing (Some (request.Set p)) e = h
+  granted_weighing (Some request.TotalClear) e = h
+  granted_weighing (Some request.Undo) e = h
+  granted_weighing (Some request.ShowGross) e = h
+  granted_weighing (Some request.ShowNet) e = h
+  granted_weighing (Some request.DayClose) e = h
+  granted_weighing (Some request.Discharge) e = h
 
-  settled_weighing : (r : Request) → In s (decided_of s st x r).state.weighing
+  settled_weighing : (r : Option Request) → In s (decided_of s st x r).state.weighing
   unfolding decided_of
   settled_weighing r = cond_in (In s) (done_of (ruling_of s st x r)) (granted_weighing r) (λ e. h)
 

@@ -24,7 +24,6 @@ use Rattle.types.specs.declared.lines.Order.{Order}
 use Rattle.types.specs.declared.lines.LineFault.{LineFault}
 use Rattle.types.specs.declared.lines.Order.TheVariants as order
 use Rattle.types.specs.declared.lines.LineFault.TheVariants as fault
-use Rattle.types.specs.declared.lines.LineRefusal.TheVariants as told
 use Rattle.types.specs.declared.lines.LineTick.{LineTick}
 use Rattle.outline.specs.Tick.{settled_of, served_of, reading_of, next_of, unasked_of}
 use Rattle.outline.specs.Lines.{line_of, kind_of, prefix_length, is_prefixed, letters_of, fields_of, set_of, decode_of, body_of, spoken_of, command_at, command_of}
@@ -96,7 +95,7 @@ set_told : (c : Result Order LineFault) (o : Result (Unit {0}) Refusal) (p : Set
 unfolding told_of
 set_told c o p e d = told_done o (rw e at d)
 
-set_request : (c : Result Order LineFault) (p : Setpoints) → c ≡ Ok (order.Set p) → request_of c ≡ request.Set p
+set_request : (c : Result Order LineFault) (p : Setpoints) → c ≡ Ok (order.Set p) → request_of c ≡ Some (request.Set p)
 unfolding request_of
 set_request c p e = rw e
 

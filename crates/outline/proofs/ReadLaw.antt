@@ -1,14 +1,13 @@
 -- A read asks nothing of its tick, so that what step 4 leaves of display, totals and setpoints is what stood before it: the reply due can
 -- be made from the state before the tick and from what the tick answers. A law that the proof of the tick with a line cites. Assumes
 -- nothing.
-use Rattle.std.specs.Prelude.{◌≡◌, Result, Ok, Err, Some}
+use Rattle.std.specs.Prelude.{◌≡◌, Result, Ok, Err, Some, None}
 use Rattle.std.proofs.Math.Path.{refl, ap}
 use Rattle.types.specs.declared.requests.Refusal.{Refusal}
 use Rattle.types.specs.declared.settings.Settings.{Settings}
 use Rattle.types.specs.declared.stages.Setpoints.{Setpoints}
 use Rattle.types.specs.declared.stages.Totals.{Totals}
 use Rattle.types.specs.declared.weight.Panel.{Panel}
-use Rattle.types.specs.declared.requests.Request.TheVariants as request
 use Rattle.types.specs.declared.machine.State.{State}
 use Rattle.types.specs.declared.machine.Input.{Input}
 use Rattle.types.specs.declared.machine.Reading.{Reading}
@@ -26,19 +25,19 @@ use Rattle.outline.specs.Tick.{entered_of, settled_of}
 use Rattle.outline.specs.Replies.{word_request, request_of, shown_of, word_reply, reply_due}
 
 module _ (s : Settings) (st : State) (i : Input) where
-  settled_unasked : i.request ≡ request.Nothing → (settled_of s st i).state ≡ entered_of s st (raw_of s.calibration i.count) i.contact
+  settled_unasked : i.request ≡ None → (settled_of s st i).state ≡ entered_of s st (raw_of s.calibration i.count) i.contact
   unfolding settled_of decided_of ruling_of granted_of
   settled_unasked e = simp e
 
-  panel_stays : i.request ≡ request.Nothing → (settled_of s st i).state.panel ≡ st.panel
+  panel_stays : i.request ≡ None → (settled_of s st i).state.panel ≡ st.panel
   unfolding entered_of
   panel_stays e = ap (λ (t : State). t.panel) (settled_unasked e)
 
-  totals_stay : i.request ≡ request.Nothing → (settled_of s st i).state.totals ≡ st.totals
+  totals_stay : i.request ≡ None → (settled_of s st i).state.totals ≡ st.totals
   unfolding entered_of
   totals_stay e = ap (λ (t : State). t.totals) (settled_unasked e)
 
-  latest_stays : i.request ≡ request.Nothing
+  latest_stays : i.request ≡ None
       → latest_of (settled_of s st i).state.setpoints (settled_of s st i).state.waiting ≡ latest_of st.setpoints st.waiting
   unfolding entered_of
   latest_stays e = ap (λ (t : State). latest_of t.setpoints t.waiting) (settled_unasked e)

@@ -1,6 +1,6 @@
 -- The setpoints in use and those waiting, tick by tick: an accepted SS writes them, and nothing else does; what RS reads stays when what
 -- waited comes into use. Assumes nothing.
-use Rattle.std.specs.Prelude.{Option, Ok}
+use Rattle.std.specs.Prelude.{Option, Ok, None, Some}
 use mathlib.Core.Path.{◌≡◌, refl, sym, ap, ◌∙◌}
 use mathlib.Core.Bool.{Bool, true, false, cond, not, ◌&&◌}
 use Rattle.types.specs.declared.settings.Settings.{Settings}
@@ -29,29 +29,29 @@ in_latest true p w = refl
 in_latest false p w = refl
 
 -- step 4
-pub granted_latest : (st : State) (x : Weights) (r : Request) → is_write (request_kind r).writes ≡ false → read_of (granted_of st x r).state ≡ read_of st
+pub granted_latest : (st : State) (x : Weights) (r : Option Request) → is_write (request_kind r).writes ≡ false → read_of (granted_of st x r).state ≡ read_of st
 unfolding granted_of
-granted_latest st x request.Nothing e = refl
-granted_latest st x request.Zero e = refl
-granted_latest st x request.Tare e = refl
-granted_latest st x request.TareClear e = refl
-granted_latest st x request.Start e = refl
-granted_latest st x request.Stop e = in_latest (not (idle_now st)) st.setpoints st.waiting
-granted_latest st x (request.Set p) e = absurd (clash refl e)
-granted_latest st x request.TotalClear e = refl
-granted_latest st x request.Undo e = refl
-granted_latest st x request.ShowGross e = refl
-granted_latest st x request.ShowNet e = refl
-granted_latest st x request.DayClose e = refl
-granted_latest st x request.Discharge e = refl
+granted_latest st x None e = refl
+granted_latest st x (Some request.Zero) e = refl
+granted_latest st x (Some request.Tare) e = refl
+granted_latest st x (Some request.TareClear) e = refl
+granted_latest st x (Some request.Start) e = refl
+granted_latest st x (Some request.Stop) e = in_latest (not (idle_now st)) st.setpoints st.waiting
+granted_latest st x (Some (request.Set p)) e = absurd (clash refl e)
+granted_latest st x (Some request.TotalClear) e = refl
+granted_latest st x (Some request.Undo) e = refl
+granted_latest st x (Some request.ShowGross) e = refl
+granted_latest st x (Some request.ShowNet) e = refl
+granted_latest st x (Some request.DayClose) e = refl
+granted_latest st x (Some request.Discharge) e = refl
 
 -- a write that is refused is none
-unless_written : (done : Bool) (st : State) (x : Weights) (r : Request) → is_write (request_kind r).writes && done ≡ false
+unless_written : (done : Bool) (st : State) (x : Weights) (r : Option Request) → is_write (request_kind r).writes && done ≡ false
     → latest_of (cond done (granted_of st x r).state.setpoints st.setpoints) (cond done (granted_of st x r).state.waiting st.waiting) ≡ read_of st
 unless_written true st x r e = granted_latest st x r (sym (and_yes (is_write (request_kind r).writes)) ∙ e)
 unless_written false st x r e = refl
 
-by_kept : (s : Settings) (st : State) (x : Weights) (r : Request) → is_write (request_kind r).writes && done_of (decided_of s st x r).outcome ≡ false
+by_kept : (s : Settings) (st : State) (x : Weights) (r : Option Request) → is_write (request_kind r).writes && done_of (decided_of s st x r).outcome ≡ false
     → read_of (decided_of s st x r).state ≡ read_of st
 unfolding decided_of
 by_kept s st x r e = unless_written (done_of (ruling_of s st x r)) st x r e
@@ -61,8 +61,8 @@ pub stored : (idle : Bool) (p q : Setpoints) (w : Option Setpoints) → (idle �
 stored true p q w h = ap (latest_of q) (h refl)
 stored false p q w h = refl
 
-by_set : (s : Settings) (st : State) (x : Weights) (r : Request) (p : Setpoints) → (idle_now st ≡ true → st.waiting ≡ none_waiting)
-    → r ≡ request.Set p → (decided_of s st x r).outcome ≡ Ok tt → read_of (decided_of s st x r).state ≡ p
+by_set : (s : Settings) (st : State) (x : Weights) (r : Option Request) (p : Setpoints) → (idle_now st ≡ true → st.waiting ≡ none_waiting)
+    → r ≡ Some (request.Set p) → (decided_of s st x r).outcome ≡ Ok tt → read_of (decided_of s st x r).state ≡ p
 unfolding decided_of granted_of
 by_set s st x r p h e d = rw d (rw e (stored (idle_now st) st.setpoints p st.waiting h))
 
@@ -71,7 +71,7 @@ unfolding settled_of entered_of tick_of outputs_of
 settled_kept s st i e = by_kept s _ _ i.request e
 
 settled_set : (s : Settings) (st : State) (i : Input) (p : Setpoints) → (idle_now st ≡ true → st.waiting ≡ none_waiting)
-    → i.request ≡ request.Set p → (settled_of s st i).outcome ≡ Ok tt → read_of (settled_of s st i).state ≡ p
+    → i.request ≡ Some (request.Set p) → (settled_of s st i).outcome ≡ Ok tt → read_of (settled_of s st i).state ≡ p
 unfolding settled_of entered_of
 settled_set s st i p h e d = by_set s _ _ i.request p h e d
 
@@ -107,6 +107,6 @@ unfolding next_of
 tick_kept s st i e = ended_latest s (settled_of s st i) (served_of s st i) ∙ settled_kept s st i e
 
 pub tick_set : (s : Settings) (st : State) (i : Input) (p : Setpoints) → (idle_now st ≡ true → st.waiting ≡ none_waiting)
-    → i.request ≡ request.Set p → (settled_of s st i).outcome ≡ Ok tt → read_of (next_of s st i) ≡ p
+    → i.request ≡ Some (request.Set p) → (settled_of s st i).outcome ≡ Ok tt → read_of (next_of s st i) ≡ p
 unfolding next_of
 tick_set s st i p h e d = ended_latest s (settled_of s st i) (served_of s st i) ∙ settled_set s st i p h e d

@@ -207,84 +207,84 @@ module _ (st : State) where
   stored_runs p i w ew = simp (i, ew)
 
 -- each way: the part that the request changes
-module _ (st : State) (x : Weights) (d : Request) where
-  pub left_nothing : d ≡ request.Nothing → left_of (Ok tt) st false false None ≡ granted_of st x d
+module _ (st : State) (x : Weights) (d : Option Request) where
+  pub left_nothing : d ≡ None → left_of (Ok tt) st false false None ≡ granted_of st x d
   unfolding granted_of
   left_nothing e = simp e
 
-  pub left_zero : d ≡ request.Zero → (w : Weighing) → w ≡ zeroed_of st.weighing x.raw
+  pub left_zero : d ≡ Some request.Zero → (w : Weighing) → w ≡ zeroed_of st.weighing x.raw
       → left_of (Ok tt) (with_weighing st w) false true None ≡ granted_of st x d
   unfolding granted_of
   left_zero e w ew = simp (e, ew)
 
-  pub left_tare : d ≡ request.Tare → (w : Weighing) → w ≡ tared_of st.weighing x.gross
+  pub left_tare : d ≡ Some request.Tare → (w : Weighing) → w ≡ tared_of st.weighing x.gross
       → left_of (Ok tt) (with_weighing st w) false false None ≡ granted_of st x d
   unfolding granted_of
   left_tare e w ew = simp (e, ew)
 
-  pub left_tare_clear : d ≡ request.TareClear → (w : Weighing) → w ≡ tared_of st.weighing (pos 0)
+  pub left_tare_clear : d ≡ Some request.TareClear → (w : Weighing) → w ≡ tared_of st.weighing (pos 0)
       → left_of (Ok tt) (with_weighing st w) false false None ≡ granted_of st x d
   unfolding granted_of
   left_tare_clear e w ew = simp (e, ew)
 
-  pub left_start : d ≡ request.Start → (q : Sequence) → q ≡ start_sequence
+  pub left_start : d ≡ Some request.Start → (q : Sequence) → q ≡ start_sequence
       → left_of (Ok tt) (with_sequence st q) true false None ≡ granted_of st x d
   unfolding granted_of
   left_start e q eq = simp (e, eq)
 
-  pub left_stop : d ≡ request.Stop → (r : State) → r ≡ stopped_of st → left_of (Ok tt) r true false None ≡ granted_of st x d
+  pub left_stop : d ≡ Some request.Stop → (r : State) → r ≡ stopped_of st → left_of (Ok tt) r true false None ≡ granted_of st x d
   unfolding granted_of
   left_stop e r er = simp (e, er)
 
-  pub left_set : (p : Setpoints) → d ≡ request.Set p → (r : State) → r ≡ stored_of st p
+  pub left_set : (p : Setpoints) → d ≡ Some (request.Set p) → (r : State) → r ≡ stored_of st p
       → left_of (Ok tt) r false false None ≡ granted_of st x d
   unfolding granted_of
   left_set p e r er = simp (e, er)
 
-  pub left_total_clear : d ≡ request.TotalClear → (t : Totals) → t ≡ clear_totals
+  pub left_total_clear : d ≡ Some request.TotalClear → (t : Totals) → t ≡ clear_totals
       → left_of (Ok tt) (with_totals st t) false false None ≡ granted_of st x d
   unfolding granted_of
   left_total_clear e t et = simp (e, et)
 
-  pub left_undo : d ≡ request.Undo → (t : Totals) → t ≡ taken_back st.totals
+  pub left_undo : d ≡ Some request.Undo → (t : Totals) → t ≡ taken_back st.totals
       → left_of (Ok tt) (with_totals st t) false false None ≡ granted_of st x d
   unfolding granted_of
   left_undo e t et = simp (e, et)
 
-  pub left_gross : d ≡ request.ShowGross → left_of (Ok tt) (with_display st display.Gross) false false None ≡ granted_of st x d
+  pub left_gross : d ≡ Some request.ShowGross → left_of (Ok tt) (with_display st display.Gross) false false None ≡ granted_of st x d
   unfolding granted_of
   left_gross e = simp e
 
-  pub left_net : d ≡ request.ShowNet → left_of (Ok tt) (with_display st display.Net) false false None ≡ granted_of st x d
+  pub left_net : d ≡ Some request.ShowNet → left_of (Ok tt) (with_display st display.Net) false false None ≡ granted_of st x d
   unfolding granted_of
   left_net e = simp e
 
-  pub left_close : d ≡ request.DayClose → (b : Book) → b ≡ closed_of st.book
+  pub left_close : d ≡ Some request.DayClose → (b : Book) → b ≡ closed_of st.book
       → left_of (Ok tt) (with_book st b) false false (Some st.book) ≡ granted_of st x d
   unfolding granted_of
   left_close e b eb = simp (e, eb)
 
-  pub left_discharge : d ≡ request.Discharge → (q : Sequence) → q ≡ discharge_sequence st.sequence
+  pub left_discharge : d ≡ Some request.Discharge → (q : Sequence) → q ≡ discharge_sequence st.sequence
       → left_of (Ok tt) (with_sequence st q) true false None ≡ granted_of st x d
   unfolding granted_of
   left_discharge e q eq = simp (e, eq)
 
 -- what is done of a request is what step 4 leaves
-granted_left : (st : State) (x : Weights) (o : Result (Unit {0}) Refusal) (r : Request) →
+granted_left : (st : State) (x : Weights) (o : Result (Unit {0}) Refusal) (r : Option Request) →
     let g = granted_of st x (grant_of o r) in
     left_of o g.state g.held g.keyed g.closed ≡ unless_refused o st (granted_of st x r)
 unfolding granted_of
 granted_left st x (Ok tt) r = refl
 granted_left st x (Err n) r = refl
 
-module _ {s : Settings} {st : State} {i : Input} {raw : Option ℤ} {q : Stability} {b : Book} {x : Weights} {o : Result (Unit {0}) Refusal} {d : Request}
+module _ {s : Settings} {st : State} {i : Input} {raw : Option ℤ} {q : Stability} {b : Book} {x : Weights} {o : Result (Unit {0}) Refusal} {d : Option Request}
     {st' : State} {held keyed : Bool} {day : Option Book} {x' : Weights} {idle : Bool} {w : Weighing}
     (p : Asked s st i raw q b x o d st' held keyed day x' idle w) where
   left_settled : left_of o st' held keyed day ≡ settled_of s st i
   unfolding settled_of decided_of ruling_of entered_of weights_of
   left_settled =
       (λ j. let g = p.left j in left_of o g.state g.held g.keyed g.closed)
-      ∙ ap (λ (r : Request).
+      ∙ ap (λ (r : Option Request).
       let g = granted_of (parts_of st b q st.weighing) x r in
       left_of o g.state g.held g.keyed g.closed) p.done
       ∙ granted_left (parts_of st b q st.weighing) x o i.request

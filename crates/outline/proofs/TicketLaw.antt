@@ -17,7 +17,7 @@ use Rattle.outline.specs.StaysTrue.{Ticket}
 use Rattle.outline.proofs.BookStep.{entered_book, book_tick, tick_book}
 
 -- an accepted close answers the book as step 2 left it
-answered : (o : Result (Unit {0}) Refusal) (st : State) (x : Weights) (r : Request) → r ≡ request.DayClose → o ≡ Ok tt → (unless_refused o st (granted_of st x r)).closed ≡ Some st.book
+answered : (o : Result (Unit {0}) Refusal) (st : State) (x : Weights) (r : Option Request) → r ≡ Some request.DayClose → o ≡ Ok tt → (unless_refused o st (granted_of st x r)).closed ≡ Some st.book
 unfolding granted_of
 answered o st x r asks done = rw (done, asks)
 

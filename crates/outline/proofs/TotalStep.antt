@@ -54,21 +54,21 @@ undo_totals t = go t.back
     go None = refl
     go (Some v) = refl
 
-settled_totals : (s : Settings) (st : State) (x : Weights) (r : Request) → (decided_of s st x r).state.totals ≡ totals_asked (request_kind r).ledger st.totals
+settled_totals : (s : Settings) (st : State) (x : Weights) (r : Option Request) → (decided_of s st x r).state.totals ≡ totals_asked (request_kind r).ledger st.totals
 unfolding decided_of ruling_of granted_of
-settled_totals s st x request.Nothing = refl
-settled_totals s st x request.Zero = simp cond_same
-settled_totals s st x request.Tare = simp cond_same
-settled_totals s st x request.TareClear = simp cond_same
-settled_totals s st x request.Start = simp cond_same
-settled_totals s st x request.Stop = refl
-settled_totals s st x (request.Set p) = simp cond_same
-settled_totals s st x request.TotalClear = refl
-settled_totals s st x request.Undo = undo_totals st.totals
-settled_totals s st x request.ShowGross = refl
-settled_totals s st x request.ShowNet = refl
-settled_totals s st x request.DayClose = simp cond_same
-settled_totals s st x request.Discharge = simp cond_same
+settled_totals s st x None = refl
+settled_totals s st x (Some request.Zero) = simp cond_same
+settled_totals s st x (Some request.Tare) = simp cond_same
+settled_totals s st x (Some request.TareClear) = simp cond_same
+settled_totals s st x (Some request.Start) = simp cond_same
+settled_totals s st x (Some request.Stop) = refl
+settled_totals s st x (Some (request.Set p)) = simp cond_same
+settled_totals s st x (Some request.TotalClear) = refl
+settled_totals s st x (Some request.Undo) = undo_totals st.totals
+settled_totals s st x (Some request.ShowGross) = refl
+settled_totals s st x (Some request.ShowNet) = refl
+settled_totals s st x (Some request.DayClose) = simp cond_same
+settled_totals s st x (Some request.Discharge) = simp cond_same
 
 -- ---- steps 5 and 6: a finished batch alone changes them
 abbrev pub finish_totals : Bool → ℤ → Totals → Totals

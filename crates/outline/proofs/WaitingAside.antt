@@ -1,5 +1,5 @@
 -- What waits changes no part of the state but the two sets, and a write outside 00 does no more than none. Assumes nothing.
-use Rattle.std.specs.Prelude.{Option, None, Result, Ok, Err}
+use Rattle.std.specs.Prelude.{Option, None, Result, Ok, Err, Some}
 use mathlib.Core.Path.{◌≡◌, refl, sym, ap, ◌∙◌}
 use mathlib.Core.Bool.{Bool, true, false, cond}
 use Rattle.types.specs.declared.requests.Refusal.{Refusal}
@@ -56,23 +56,23 @@ unfolding served_of weights_of
 served_alike s st st' i j en ec e = λ k. weights_of s (e.rest k) (raw_of s.calibration (en k)) (ec k)
 
 -- ---- whatever waits
-granted_alike : (st : State) (w : Option Setpoints) (x : Weights) (r : Request) → Alike (granted_of (with_waiting st w) x r) (granted_of st x r)
+granted_alike : (st : State) (w : Option Setpoints) (x : Weights) (r : Option Request) → Alike (granted_of (with_waiting st w) x r) (granted_of st x r)
 unfolding granted_of
-granted_alike st w x request.Nothing = record { held = refl; keyed = refl; rest = refl; used = λ e. refl }
-granted_alike st w x request.Zero = record { held = refl; keyed = refl; rest = refl; used = λ e. refl }
-granted_alike st w x request.Tare = record { held = refl; keyed = refl; rest = refl; used = λ e. refl }
-granted_alike st w x request.TareClear = record { held = refl; keyed = refl; rest = refl; used = λ e. refl }
-granted_alike st w x request.Start = record { held = refl; keyed = refl; rest = refl; used = λ e. refl }
-granted_alike st w x request.Stop = record { held = refl; keyed = refl; rest = refl; used = λ e. absurd (clash refl e) }
-granted_alike st w x (request.Set p) = record { held = refl; keyed = refl; rest = refl; used = λ e. refl }
-granted_alike st w x request.TotalClear = record { held = refl; keyed = refl; rest = refl; used = λ e. refl }
-granted_alike st w x request.Undo = record { held = refl; keyed = refl; rest = refl; used = λ e. refl }
-granted_alike st w x request.ShowGross = record { held = refl; keyed = refl; rest = refl; used = λ e. refl }
-granted_alike st w x request.ShowNet = record { held = refl; keyed = refl; rest = refl; used = λ e. refl }
-granted_alike st w x request.DayClose = record { held = refl; keyed = refl; rest = refl; used = λ e. refl }
-granted_alike st w x request.Discharge = record { held = refl; keyed = refl; rest = refl; used = λ e. refl }
+granted_alike st w x None = record { held = refl; keyed = refl; rest = refl; used = λ e. refl }
+granted_alike st w x (Some request.Zero) = record { held = refl; keyed = refl; rest = refl; used = λ e. refl }
+granted_alike st w x (Some request.Tare) = record { held = refl; keyed = refl; rest = refl; used = λ e. refl }
+granted_alike st w x (Some request.TareClear) = record { held = refl; keyed = refl; rest = refl; used = λ e. refl }
+granted_alike st w x (Some request.Start) = record { held = refl; keyed = refl; rest = refl; used = λ e. refl }
+granted_alike st w x (Some request.Stop) = record { held = refl; keyed = refl; rest = refl; used = λ e. absurd (clash refl e) }
+granted_alike st w x (Some (request.Set p)) = record { held = refl; keyed = refl; rest = refl; used = λ e. refl }
+granted_alike st w x (Some request.TotalClear) = record { held = refl; keyed = refl; rest = refl; used = λ e. refl }
+granted_alike st w x (Some request.Undo) = record { held = refl; keyed = refl; rest = refl; used = λ e. refl }
+granted_alike st w x (Some request.ShowGross) = record { held = refl; keyed = refl; rest = refl; used = λ e. refl }
+granted_alike st w x (Some request.ShowNet) = record { held = refl; keyed = refl; rest = refl; used = λ e. refl }
+granted_alike st w x (Some request.DayClose) = record { held = refl; keyed = refl; rest = refl; used = λ e. refl }
+granted_alike st w x (Some request.Discharge) = record { held = refl; keyed = refl; rest = refl; used = λ e. refl }
 
-decided_alike : (s : Settings) (st : State) (w : Option Setpoints) (x : Weights) (r : Request)
+decided_alike : (s : Settings) (st : State) (w : Option Setpoints) (x : Weights) (r : Option Request)
     → Alike (decided_of s (with_waiting st w) x r) (decided_of s st x r)
 unfolding decided_of ruling_of
 decided_alike s st w x r = go (ruling_of s st x r)
@@ -95,12 +95,12 @@ waiting_aside s st w i =
 
 -- ---- a write outside 00
 stored_alike : (s : Settings) (st : State) (x : Weights) (p : Setpoints) (o : Result (Unit {0}) Refusal) → idle_now st ≡ false
-    → Alike (unless_refused o st (granted_of st x (request.Set p))) (unless_refused (Ok tt) st (granted_of st x request.Nothing))
+    → Alike (unless_refused o st (granted_of st x (Some (request.Set p)))) (unless_refused (Ok tt) st (granted_of st x None))
 unfolding granted_of
 stored_alike s st x p (Ok tt) e = record { held = refl; keyed = refl; rest = refl; used = λ h. ap (λ (t : Bool). cond t p st.setpoints) e }
 stored_alike s st x p (Err n) e = record { held = refl; keyed = refl; rest = refl; used = λ h. refl }
 
-written_alike : (s : Settings) (st : State) (i : Input) (p : Setpoints) → idle_now st ≡ false → i.request ≡ request.Set p
+written_alike : (s : Settings) (st : State) (i : Input) (p : Setpoints) → idle_now st ≡ false → i.request ≡ Some (request.Set p)
     → Alike (settled_of s st i) (settled_of s st (without_request i))
 unfolding settled_of entered_of decided_of ruling_of
 written_alike s st i p e er = rw er (stored_alike s _ _ p _ e)

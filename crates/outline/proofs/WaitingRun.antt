@@ -27,41 +27,41 @@ use Rattle.outline.proofs.RangeRun.{run_in}
 -- ---- step 4, where the stage is not 00 after it: what is done of a request
 module _ (st : State) (x : Weights) where
   -- the set in use stays
-  granted_used : (r : Request) → idle_now (granted_of st x r).state ≡ false → (granted_of st x r).state.setpoints ≡ st.setpoints
+  granted_used : (r : Option Request) → idle_now (granted_of st x r).state ≡ false → (granted_of st x r).state.setpoints ≡ st.setpoints
   unfolding granted_of
-  granted_used request.Nothing e = refl
-  granted_used request.Zero e = refl
-  granted_used request.Tare e = refl
-  granted_used request.TareClear e = refl
-  granted_used request.Start e = refl
-  granted_used request.Stop e = absurd (clash (stop_idle st.sequence) e)
-  granted_used (request.Set p) e = rw e
-  granted_used request.TotalClear e = refl
-  granted_used request.Undo e = refl
-  granted_used request.ShowGross e = refl
-  granted_used request.ShowNet e = refl
-  granted_used request.DayClose e = refl
-  granted_used request.Discharge e = refl
+  granted_used None e = refl
+  granted_used (Some request.Zero) e = refl
+  granted_used (Some request.Tare) e = refl
+  granted_used (Some request.TareClear) e = refl
+  granted_used (Some request.Start) e = refl
+  granted_used (Some request.Stop) e = absurd (clash (stop_idle st.sequence) e)
+  granted_used (Some (request.Set p)) e = rw e
+  granted_used (Some request.TotalClear) e = refl
+  granted_used (Some request.Undo) e = refl
+  granted_used (Some request.ShowGross) e = refl
+  granted_used (Some request.ShowNet) e = refl
+  granted_used (Some request.DayClose) e = refl
+  granted_used (Some request.Discharge) e = refl
 
   -- what waits is what is written, if anything is
-  granted_waits : (r : Request) → idle_now (granted_of st x r).state ≡ false
+  granted_waits : (r : Option Request) → idle_now (granted_of st x r).state ≡ false
       → (granted_of st x r).state.waiting ≡ replaces (request_kind r).writes st.waiting
   unfolding granted_of
-  granted_waits request.Nothing e = refl
-  granted_waits request.Zero e = refl
-  granted_waits request.Tare e = refl
-  granted_waits request.TareClear e = refl
-  granted_waits request.Start e = refl
-  granted_waits request.Stop e = absurd (clash (stop_idle st.sequence) e)
-  granted_waits (request.Set p) e = rw e
-  granted_waits request.TotalClear e = refl
-  granted_waits request.Undo e = refl
-  granted_waits request.ShowGross e = refl
-  granted_waits request.ShowNet e = refl
-  granted_waits request.DayClose e = refl
-  granted_waits request.Discharge e = refl
+  granted_waits None e = refl
+  granted_waits (Some request.Zero) e = refl
+  granted_waits (Some request.Tare) e = refl
+  granted_waits (Some request.TareClear) e = refl
+  granted_waits (Some request.Start) e = refl
+  granted_waits (Some request.Stop) e = absurd (clash (stop_idle st.sequence) e)
+  granted_waits (Some (request.Set p)) e = rw e
+  granted_waits (Some request.TotalClear) e = refl
+  granted_waits (Some request.Undo) e = refl
+  granted_waits (Some request.ShowGross) e = refl
+  granted_waits (Some request.ShowNet) e = refl
+  granted_waits (Some request.DayClose) e = refl
+  granted_waits (Some request.Discharge) e = refl
 
-module _ (s : Settings) (st : State) (x : Weights) (r : Request) where
+module _ (s : Settings) (st : State) (x : Weights) (r : Option Request) where
   decided_used : idle_now (decided_of s st x r).state ≡ false → (decided_of s st x r).state.setpoints ≡ st.setpoints
   unfolding decided_of
   decided_used = go (ruling_of s st x r)
@@ -135,25 +135,25 @@ waiting_of_writes s a (h ▷ i) =
     ∙ ap (λ (w : Option Setpoints). let t = points_seen s (run_of s h) i in cond t.idle None (replaces t.write w)) (waiting_of_writes s a h)
 
 -- ---- the set written last: what RS reads
-granted_reads : (st : State) (x : Weights) (r : Request) → (idle_now st ≡ true → st.waiting ≡ none_waiting)
+granted_reads : (st : State) (x : Weights) (r : Option Request) → (idle_now st ≡ true → st.waiting ≡ none_waiting)
     → read_of (granted_of st x r).state ≡ written_else (request_kind r).writes (read_of st)
 unfolding granted_of
-granted_reads st x request.Nothing n = granted_latest st x request.Nothing refl
-granted_reads st x request.Zero n = granted_latest st x request.Zero refl
-granted_reads st x request.Tare n = granted_latest st x request.Tare refl
-granted_reads st x request.TareClear n = granted_latest st x request.TareClear refl
-granted_reads st x request.Start n = granted_latest st x request.Start refl
-granted_reads st x request.Stop n = granted_latest st x request.Stop refl
-granted_reads st x (request.Set p) n = stored (idle_now st) st.setpoints p st.waiting n
-granted_reads st x request.TotalClear n = granted_latest st x request.TotalClear refl
-granted_reads st x request.Undo n = granted_latest st x request.Undo refl
-granted_reads st x request.ShowGross n = granted_latest st x request.ShowGross refl
-granted_reads st x request.ShowNet n = granted_latest st x request.ShowNet refl
-granted_reads st x request.DayClose n = granted_latest st x request.DayClose refl
-granted_reads st x request.Discharge n = granted_latest st x request.Discharge refl
+granted_reads st x None n = granted_latest st x None refl
+granted_reads st x (Some request.Zero) n = granted_latest st x (Some request.Zero) refl
+granted_reads st x (Some request.Tare) n = granted_latest st x (Some request.Tare) refl
+granted_reads st x (Some request.TareClear) n = granted_latest st x (Some request.TareClear) refl
+granted_reads st x (Some request.Start) n = granted_latest st x (Some request.Start) refl
+granted_reads st x (Some request.Stop) n = granted_latest st x (Some request.Stop) refl
+granted_reads st x (Some (request.Set p)) n = stored (idle_now st) st.setpoints p st.waiting n
+granted_reads st x (Some request.TotalClear) n = granted_latest st x (Some request.TotalClear) refl
+granted_reads st x (Some request.Undo) n = granted_latest st x (Some request.Undo) refl
+granted_reads st x (Some request.ShowGross) n = granted_latest st x (Some request.ShowGross) refl
+granted_reads st x (Some request.ShowNet) n = granted_latest st x (Some request.ShowNet) refl
+granted_reads st x (Some request.DayClose) n = granted_latest st x (Some request.DayClose) refl
+granted_reads st x (Some request.Discharge) n = granted_latest st x (Some request.Discharge) refl
 
 module _ (s : Settings) where
-  decided_reads : (st : State) (x : Weights) (r : Request) → (idle_now st ≡ true → st.waiting ≡ none_waiting)
+  decided_reads : (st : State) (x : Weights) (r : Option Request) → (idle_now st ≡ true → st.waiting ≡ none_waiting)
       → read_of (decided_of s st x r).state ≡ written_else (request_kind (grant_of (decided_of s st x r).outcome r)).writes (read_of st)
   unfolding decided_of
   decided_reads st x r n = go (ruling_of s st x r)

@@ -53,24 +53,24 @@ pub record Zeroed (s : Settings) (w : Zeros) (z : Zeroing) : Type 0 where
 abbrev pub keyed_zeros : Bool → ℤ → Zeros → Zeros
 keyed_zeros t x z = record { zero = cond t x z.zero; tracked = cond t (pos 0) z.tracked; counter = z.counter }
 
-granted_zeros : (st : State) (x : Weights) (r : Request) →
+granted_zeros : (st : State) (x : Weights) (r : Option Request) →
     zeros_of (granted_of st x r).state.weighing ≡ keyed_zeros (granted_of st x r).keyed x.raw (zeros_of st.weighing)
 unfolding granted_of
-granted_zeros st x request.Nothing = refl
-granted_zeros st x request.Zero = refl
-granted_zeros st x request.Tare = refl
-granted_zeros st x request.TareClear = refl
-granted_zeros st x request.Start = refl
-granted_zeros st x request.Stop = refl
-granted_zeros st x (request.Set p) = refl
-granted_zeros st x request.TotalClear = refl
-granted_zeros st x request.Undo = refl
-granted_zeros st x request.ShowGross = refl
-granted_zeros st x request.ShowNet = refl
-granted_zeros st x request.DayClose = refl
-granted_zeros st x request.Discharge = refl
+granted_zeros st x None = refl
+granted_zeros st x (Some request.Zero) = refl
+granted_zeros st x (Some request.Tare) = refl
+granted_zeros st x (Some request.TareClear) = refl
+granted_zeros st x (Some request.Start) = refl
+granted_zeros st x (Some request.Stop) = refl
+granted_zeros st x (Some (request.Set p)) = refl
+granted_zeros st x (Some request.TotalClear) = refl
+granted_zeros st x (Some request.Undo) = refl
+granted_zeros st x (Some request.ShowGross) = refl
+granted_zeros st x (Some request.ShowNet) = refl
+granted_zeros st x (Some request.DayClose) = refl
+granted_zeros st x (Some request.Discharge) = refl
 
-pub settled_zeros : (s : Settings) (st : State) (x : Weights) (r : Request) →
+pub settled_zeros : (s : Settings) (st : State) (x : Weights) (r : Option Request) →
     zeros_of (decided_of s st x r).state.weighing ≡ keyed_zeros (decided_of s st x r).keyed x.raw (zeros_of st.weighing)
 unfolding decided_of
 settled_zeros s st x r = go (done_of (ruling_of s st x r))
@@ -82,56 +82,56 @@ settled_zeros s st x r = go (done_of (ruling_of s st x r))
     go false = refl
 
 -- it is keyed where the history says so
-granted_keyed : (st : State) (x : Weights) (r : Request) → (granted_of st x r).keyed ≡ (request_kind r).zeroes
+granted_keyed : (st : State) (x : Weights) (r : Option Request) → (granted_of st x r).keyed ≡ (request_kind r).zeroes
 unfolding granted_of
-granted_keyed st x request.Nothing = refl
-granted_keyed st x request.Zero = refl
-granted_keyed st x request.Tare = refl
-granted_keyed st x request.TareClear = refl
-granted_keyed st x request.Start = refl
-granted_keyed st x request.Stop = refl
-granted_keyed st x (request.Set p) = refl
-granted_keyed st x request.TotalClear = refl
-granted_keyed st x request.Undo = refl
-granted_keyed st x request.ShowGross = refl
-granted_keyed st x request.ShowNet = refl
-granted_keyed st x request.DayClose = refl
-granted_keyed st x request.Discharge = refl
+granted_keyed st x None = refl
+granted_keyed st x (Some request.Zero) = refl
+granted_keyed st x (Some request.Tare) = refl
+granted_keyed st x (Some request.TareClear) = refl
+granted_keyed st x (Some request.Start) = refl
+granted_keyed st x (Some request.Stop) = refl
+granted_keyed st x (Some (request.Set p)) = refl
+granted_keyed st x (Some request.TotalClear) = refl
+granted_keyed st x (Some request.Undo) = refl
+granted_keyed st x (Some request.ShowGross) = refl
+granted_keyed st x (Some request.ShowNet) = refl
+granted_keyed st x (Some request.DayClose) = refl
+granted_keyed st x (Some request.Discharge) = refl
 
-settled_keyed : (s : Settings) (st : State) (x : Weights) (r : Request) →
+settled_keyed : (s : Settings) (st : State) (x : Weights) (r : Option Request) →
     (decided_of s st x r).keyed ≡ done_of (decided_of s st x r).outcome && (request_kind r).zeroes
 unfolding decided_of
 settled_keyed s st x r = rw (granted_keyed st x r)
 
 -- one request alone keys a zero
-zeroes_zero : (r : Request) → (request_kind r).zeroes ≡ true → r ≡ request.Zero
-zeroes_zero request.Nothing e = absurd (clash e refl)
-zeroes_zero request.Zero e = refl
-zeroes_zero request.Tare e = absurd (clash e refl)
-zeroes_zero request.TareClear e = absurd (clash e refl)
-zeroes_zero request.Start e = absurd (clash e refl)
-zeroes_zero request.Stop e = absurd (clash e refl)
-zeroes_zero (request.Set p) e = absurd (clash e refl)
-zeroes_zero request.TotalClear e = absurd (clash e refl)
-zeroes_zero request.Undo e = absurd (clash e refl)
-zeroes_zero request.ShowGross e = absurd (clash e refl)
-zeroes_zero request.ShowNet e = absurd (clash e refl)
-zeroes_zero request.DayClose e = absurd (clash e refl)
-zeroes_zero request.Discharge e = absurd (clash e refl)
+zeroes_zero : (r : Option Request) → (request_kind r).zeroes ≡ true → r ≡ Some request.Zero
+zeroes_zero None e = absurd (clash e refl)
+zeroes_zero (Some request.Zero) e = refl
+zeroes_zero (Some request.Tare) e = absurd (clash e refl)
+zeroes_zero (Some request.TareClear) e = absurd (clash e refl)
+zeroes_zero (Some request.Start) e = absurd (clash e refl)
+zeroes_zero (Some request.Stop) e = absurd (clash e refl)
+zeroes_zero (Some (request.Set p)) e = absurd (clash e refl)
+zeroes_zero (Some request.TotalClear) e = absurd (clash e refl)
+zeroes_zero (Some request.Undo) e = absurd (clash e refl)
+zeroes_zero (Some request.ShowGross) e = absurd (clash e refl)
+zeroes_zero (Some request.ShowNet) e = absurd (clash e refl)
+zeroes_zero (Some request.DayClose) e = absurd (clash e refl)
+zeroes_zero (Some request.Discharge) e = absurd (clash e refl)
 
 -- a zero is refused in a bad tick
-bad_refused : (s : Settings) (st : State) (x : Weights) → x.good ≡ false → done_of (ruling_of s st x request.Zero) ≡ false
+bad_refused : (s : Settings) (st : State) (x : Weights) → x.good ≡ false → done_of (ruling_of s st x (Some request.Zero)) ≡ false
 unfolding ruling_of
 bad_refused s st x h = simp h
 
 -- where a zero is refused, whatever is asked keys none
-module _ (s : Settings) (st : State) (x : Weights) (no : done_of (ruling_of s st x request.Zero) ≡ false) where
-  pub none_keyed : (r : Request) → (decided_of s st x r).keyed ≡ false
+module _ (s : Settings) (st : State) (x : Weights) (no : done_of (ruling_of s st x (Some request.Zero)) ≡ false) where
+  pub none_keyed : (r : Option Request) → (decided_of s st x r).keyed ≡ false
   unfolding decided_of
   none_keyed r = settled_keyed s st x r ∙ go (request_kind r).zeroes refl
     where
       go : (t : Bool) → (request_kind r).zeroes ≡ t → done_of (ruling_of s st x r) && t ≡ false
-      go true e = ap (λ (u : Request). done_of (ruling_of s st x u) && true) (zeroes_zero r e) ∙ ap (λ (u : Bool). u && true) no
+      go true e = ap (λ (u : Option Request). done_of (ruling_of s st x u) && true) (zeroes_zero r e) ∙ ap (λ (u : Bool). u && true) no
       go false e = and_no (done_of (ruling_of s st x r))
 
 -- ---- the counter, which returns to 0 at q, is the calm ticks' remainder by q

@@ -65,20 +65,20 @@ day_close_lem = 7
 abbrev pub discharge : ℕ
 discharge = 8
 
-abbrev pub name_of : Request → ℕ
-name_of request.Nothing = 0
-name_of request.Zero = zero
-name_of request.Tare = tare
-name_of request.TareClear = tare_clear
-name_of request.Start = start
-name_of request.Stop = 0
-name_of (request.Set p) = setpoints
-name_of request.TotalClear = 0
-name_of request.Undo = undo
-name_of request.ShowGross = 0
-name_of request.ShowNet = 0
-name_of request.DayClose = day_close_lem
-name_of request.Discharge = discharge
+abbrev pub name_of : Option Request → ℕ
+name_of None = 0
+name_of (Some request.Zero) = zero
+name_of (Some request.Tare) = tare
+name_of (Some request.TareClear) = tare_clear
+name_of (Some request.Start) = start
+name_of (Some request.Stop) = 0
+name_of (Some (request.Set p)) = setpoints
+name_of (Some request.TotalClear) = 0
+name_of (Some request.Undo) = undo
+name_of (Some request.ShowGross) = 0
+name_of (Some request.ShowNet) = 0
+name_of (Some request.DayClose) = day_close_lem
+name_of (Some request.Discharge) = discharge
 
 abbrev pub is_in : ℕ → List ℕ → Bool
 is_in n [] = false
@@ -109,7 +109,7 @@ row n given to = record { number = n; given = given; to = to }
 
 -- the table, row by row; A1: "BD takes 1, 2, 3 as start does, then 9 in mode 2."; A5: "setpoints no longer answer 3; 6 stands."; A6: "8,
 -- contact closed, to zero only, tested after 3 and before 4"
-abbrev pub table_of : Settings → State → Weights → Request → List GivenWhen
+abbrev pub table_of : Settings → State → Weights → Option Request → List GivenWhen
 table_of s st x r =
     row 1 (not x.good) (zero ∷ tare ∷ start ∷ day_close_lem ∷ discharge ∷ [])
     ∷ row 2 x.overload (zero ∷ tare ∷ start ∷ discharge ∷ [])
@@ -128,7 +128,7 @@ first_given name [] = 0
 first_given name (l ∷ ls) = cond (is_in name l.to && l.given) l.number (first_given name ls)
 
 -- of a request that a tick asks of the state and the weights that it finds
-abbrev pub request_due : Settings → State → Weights → Request → ℕ
+abbrev pub request_due : Settings → State → Weights → Option Request → ℕ
 request_due s st x r = first_given (name_of r) (table_of s st x r)
 
 -- of a tick: its request finds what steps 1 to 3 leave

@@ -1,9 +1,8 @@
 -- Worked by hand from the outline, section "Serial lines": what each command asks, sent as a line: told, replied, and what its tick leaves.
 -- Statements; they are computed in proofs/CommandFigures.antt.
-use Rattle.std.specs.Prelude.{ℕ, ◌≡◌, true, false, List, [], ◌∷◌, set, ℤ, pos}
+use Rattle.std.specs.Prelude.{ℕ, ◌≡◌, true, false, List, [], ◌∷◌, set, ℤ, pos, None}
 use Prim.Native.String.{String}
 use Rattle.types.specs.declared.settings.Settings.{Settings}
-use Rattle.types.specs.declared.requests.Request.TheVariants as request
 use Rattle.types.specs.declared.machine.State.{State}
 use Rattle.types.specs.declared.lines.LineTick.{LineTick}
 use Rattle.outline.specs.Settings.{settings_of}
@@ -30,7 +29,7 @@ after st count text = (tick_with st count text).state
 
 -- a count held for n ticks
 abbrev pub rest : ℕ → State → ℤ → State
-rest n st count = held_for settings_k10 n count request.Nothing st
+rest n st count = held_for settings_k10 n count None st
 
 -- stable in the next tick, at this count
 abbrev pub still : ℤ → State

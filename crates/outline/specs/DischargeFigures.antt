@@ -41,7 +41,7 @@ points = record { target = 10; fall = 5; preliminary = 0; optional = 0; over = 0
 -- a batch that finishes at this count: 03 and 08 at 0; at the count 09, 10, and 11 until the run is 10
 abbrev pub batch_at : ℤ → List Leg
 batch_at count =
-    leg 1 (pos 0) (request.Set points) ∷ leg 1 (pos 0) request.Start ∷ leg 1 (pos 0) request.Nothing ∷ leg 11 count request.Nothing ∷ []
+    leg 1 (pos 0) (Some (request.Set points)) ∷ leg 1 (pos 0) (Some request.Start) ∷ leg 1 (pos 0) None ∷ leg 11 count None ∷ []
 
 -- a batch of 10, OK, then a discharge at 100 that was stopped: error 7; the batch can be taken back
 abbrev pub before : State
@@ -66,7 +66,7 @@ before = record {
 }
 
 -- the ticks of each leg, the first one first
-abbrev pub run_for : Settings → State → ℕ → ℤ → Request → (State → List Ticked) → List Ticked
+abbrev pub run_for : Settings → State → ℕ → ℤ → Option Request → (State → List Ticked) → List Ticked
 run_for s st zero count r rest = rest st
 run_for s st (suc n) count r rest =
     let tick = tick_at s st count r in
@@ -113,20 +113,20 @@ course start after limit = course_from (settings_out start after limit) before
 
 -- BD at 100, n ticks more at 100, then m at 20, which is near zero
 abbrev pub drained : ℕ → ℕ → List Leg
-drained n m = leg 1 (pos 1000) request.Discharge ∷ leg n (pos 1000) request.Nothing ∷ leg m (pos 200) request.Nothing ∷ []
+drained n m = leg 1 (pos 1000) (Some request.Discharge) ∷ leg n (pos 1000) None ∷ leg m (pos 200) None ∷ []
 
 -- the same at 20 from the start
 abbrev pub at_near : ℕ → List Leg
-at_near n = leg 1 (pos 200) request.Discharge ∷ leg n (pos 200) request.Nothing ∷ []
+at_near n = leg 1 (pos 200) (Some request.Discharge) ∷ leg n (pos 200) None ∷ []
 
 -- with delays of 3 and this limit: what a tick with this count and request shows behind those, and one tick more
-abbrev pub behind : ℕ → ℕ → ℕ → ℤ → Request → Course
+abbrev pub behind : ℕ → ℕ → ℕ → ℤ → Option Request → Course
 behind limit n m count r =
     let s = settings_out 3 3 limit in
-    course_from s (state_after s (drained n m) before) (leg 1 count r ∷ leg 1 (pos 1000) request.Nothing ∷ [])
+    course_from s (state_after s (drained n m) before) (leg 1 count r ∷ leg 1 (pos 1000) None ∷ [])
 
 -- in each of 14, 15 and 16
-abbrev pub in_each : ℤ → Request → List Course
+abbrev pub in_each : ℤ → Option Request → List Course
 in_each count r = behind 6000 0 0 count r ∷ behind 6000 3 0 count r ∷ behind 6000 5 1 count r ∷ []
 
 -- over with this error: stage 00, every gate shut; judgement, total and count stay
@@ -142,14 +142,14 @@ over e = record {
 -- ---- gross and net
 -- a tare of 50, keyed in the eleventh tick at 50
 abbrev pub tare_legs : List Leg
-tare_legs = leg 1 (pos 500) (request.Set points) ∷ leg 10 (pos 500) request.Nothing ∷ leg 1 (pos 500) request.Tare ∷ []
+tare_legs = leg 1 (pos 500) (Some (request.Set points)) ∷ leg 10 (pos 500) None ∷ leg 1 (pos 500) (Some request.Tare) ∷ []
 
 -- BD and 15 at 100, then gross 60 and 21, and 20
 abbrev pub tare_course : List Answer
 tare_course =
     let s = settings_out 0 0 6000 in
     answers s
-    (drained 1 0 ++ (leg 1 (pos 600) request.Nothing ∷ leg 1 (pos 210) request.Nothing ∷ leg 1 (pos 200) request.Nothing ∷ []))
+    (drained 1 0 ++ (leg 1 (pos 600) None ∷ leg 1 (pos 210) None ∷ leg 1 (pos 200) None ∷ []))
     (state_after s tare_legs open_state)
 
 abbrev pub nets_in : List Answer → List ℤ
@@ -160,7 +160,7 @@ abbrev pub course_d5 : List Answer
 course_d5 =
     let s = settings_of (given_of (set (list_out 0 0 6000) 4 (pos 5))) in
     answers s
-    (leg 1 (pos 0) (request.Set points) ∷ drained 1 0 ++ (leg 1 (pos 50) request.Nothing ∷ leg 1 (pos 40) request.Nothing ∷ []))
+    (leg 1 (pos 0) (Some (request.Set points)) ∷ drained 1 0 ++ (leg 1 (pos 50) None ∷ leg 1 (pos 40) None ∷ []))
     open_state
 
 -- ---- what a discharge keeps
@@ -176,7 +176,7 @@ judged_behind j =
     (with_sequence before (record { stage = stage.Idle; clock = 0; error = None; judgement = j }))))
 
 -- after a discharge and this request
-abbrev pub after_then : Request → List ℕ
+abbrev pub after_then : Option Request → List ℕ
 after_then r =
     let s = settings_out 0 0 6000 in
     standing (state_after s (drained 1 2 ++ (leg 1 (pos 0) r ∷ [])) before)
@@ -184,13 +184,13 @@ after_then r =
 -- a batch of 100 and four discharges, all delays 0: one stopped, one with a bad tick, one that ends, one with two undos; then a start
 abbrev pub day_legs : List Leg
 day_legs =
-    leg 1 (pos 0) (request.Set (record { target = 100; fall = 0; preliminary = 0; optional = 0; over = 0; under = 0; near = 20 }))
-    ∷ leg 1 (pos 0) request.Start ∷ leg 2 (pos 0) request.Nothing ∷ leg 11 (pos 1000) request.Nothing
-    ∷ leg 1 (pos 1000) request.Discharge ∷ leg 1 (pos 1000) request.Nothing ∷ leg 1 (pos 1000) request.Stop
-    ∷ leg 1 (pos 1000) request.Discharge ∷ leg 1 (pos 1000) request.Nothing ∷ leg 1 (pos 2000001) request.Nothing
-    ∷ leg 1 (pos 1000) request.Discharge ∷ leg 1 (pos 1000) request.Nothing ∷ leg 1 (pos 200) request.Nothing
-    ∷ leg 2 (pos 200) request.Discharge ∷ leg 2 (pos 200) request.Undo ∷ leg 1 (pos 200) request.Nothing
-    ∷ leg 1 (pos 0) request.Start ∷ []
+    leg 1 (pos 0) (Some (request.Set (record { target = 100; fall = 0; preliminary = 0; optional = 0; over = 0; under = 0; near = 20 })))
+    ∷ leg 1 (pos 0) (Some request.Start) ∷ leg 2 (pos 0) None ∷ leg 11 (pos 1000) None
+    ∷ leg 1 (pos 1000) (Some request.Discharge) ∷ leg 1 (pos 1000) None ∷ leg 1 (pos 1000) (Some request.Stop)
+    ∷ leg 1 (pos 1000) (Some request.Discharge) ∷ leg 1 (pos 1000) None ∷ leg 1 (pos 2000001) None
+    ∷ leg 1 (pos 1000) (Some request.Discharge) ∷ leg 1 (pos 1000) None ∷ leg 1 (pos 200) None
+    ∷ leg 2 (pos 200) (Some request.Discharge) ∷ leg 2 (pos 200) (Some request.Undo) ∷ leg 1 (pos 200) None
+    ∷ leg 1 (pos 0) (Some request.Start) ∷ []
 
 -- what its ticks show
 pub record Day : Type 0 where
@@ -222,7 +222,7 @@ abbrev pub stopped_batch : Course
 stopped_batch =
     course_from (settings_out 0 0 6000)
     (with_sequence before (record { stage = stage.SmallDisable 0; clock = 0; error = None; judgement = None }))
-    (leg 1 (pos 0) request.Stop ∷ drained 1 2)
+    (leg 1 (pos 0) (Some request.Stop) ∷ drained 1 2)
 
 -- ---- tracking: q 3, delays of 3, 4 tenths in every tick but the first, which does not count
 abbrev pub settings_tracked : Settings
@@ -230,11 +230,11 @@ settings_tracked = settings_of (given_of (set (list_out 3 3 6000) 6 (pos 3)))
 
 abbrev pub track_legs : List Leg
 track_legs =
-    leg 2 (pos 4) request.Nothing ∷ leg 1 (pos 4) request.Discharge ∷ leg 8 (pos 4) request.Nothing ∷ leg 1 (pos 4) request.Discharge
-    ∷ leg 1 (pos 4) request.Stop ∷ leg 2 (pos 4) request.Nothing ∷ []
+    leg 2 (pos 4) None ∷ leg 1 (pos 4) (Some request.Discharge) ∷ leg 8 (pos 4) None ∷ leg 1 (pos 4) (Some request.Discharge)
+    ∷ leg 1 (pos 4) (Some request.Stop) ∷ leg 2 (pos 4) None ∷ []
 
 abbrev pub track_from : State
-track_from = state_after settings_tracked (leg 1 (pos 100) (request.Set points) ∷ []) open_state
+track_from = state_after settings_tracked (leg 1 (pos 100) (Some (request.Set points)) ∷ []) open_state
 
 -- the counter, the zero in force and what was tracked, after each tick
 pub record Tracks : Type 0 where
@@ -255,7 +255,7 @@ pub record Discharged : Type 0 where
   -- the state that most of these begin with is reached
   pub reached :
       state_after (settings_out 0 0 6000)
-      (batch_at (pos 100) ++ (leg 1 (pos 1000) request.Discharge ∷ leg 1 (pos 1000) request.Stop ∷ [])) open_state
+      (batch_at (pos 100) ++ (leg 1 (pos 1000) (Some request.Discharge) ∷ leg 1 (pos 1000) (Some request.Stop) ∷ [])) open_state
       ≡ before
   -- "A timed stage of n lasts max(n, 1) ticks": 14 a tick with a delay of 0, and "BD .. passes step 6 over": its tick is that one. "the
   -- discharge gate opens in 15, until gross is at most near zero, and stays open through 16, the end delay." "Its clock is 0 on entering 15
@@ -286,7 +286,7 @@ pub record Discharged : Type 0 where
   -- "until gross is at most near zero": not at 21, but at 20; 16 asks for no weight
   pub above-near :
       course 3 3 6000
-      (drained 5 0 ++ (leg 1 (pos 210) request.Nothing ∷ leg 1 (pos 200) request.Nothing ∷ leg 3 (pos 1000) request.Nothing ∷ []))
+      (drained 5 0 ++ (leg 1 (pos 210) None ∷ leg 1 (pos 200) None ∷ leg 3 (pos 1000) None ∷ []))
       ≡ record {
         stages = 14 ∷ 14 ∷ 14 ∷ 15 ∷ 15 ∷ 15 ∷ 15 ∷ 16 ∷ 16 ∷ 16 ∷ 0 ∷ [];
         gates = shut ∷ shut ∷ shut ∷ emptying ∷ emptying ∷ emptying ∷ emptying ∷ emptying ∷ emptying ∷ emptying ∷ shut ∷ [];
@@ -392,21 +392,21 @@ pub record Discharged : Type 0 where
   }
   pub own_limit_batch : standing (state_after (settings_out 0 0 1) (batch_at (pos 100)) open_state) ≡ 0 ∷ 0 ∷ 1 ∷ 10 ∷ 1 ∷ []
   -- "Stop in 14 to 16 is error 7", in a bad and in an overloaded tick too
-  pub stop_14 : behind 6000 0 0 (pos 1000) request.Stop ≡ over 7
-  pub stop_15 : behind 6000 3 0 (pos 1000) request.Stop ≡ over 7
-  pub stop_16 : behind 6000 5 1 (pos 200) request.Stop ≡ over 7
-  pub stop_bad : in_each (pos 2000001) request.Stop ≡ replicate 3 (over 7)
-  pub stop_overloaded : in_each (pos 110000) request.Stop ≡ replicate 3 (over 7)
+  pub stop_14 : behind 6000 0 0 (pos 1000) (Some request.Stop) ≡ over 7
+  pub stop_15 : behind 6000 3 0 (pos 1000) (Some request.Stop) ≡ over 7
+  pub stop_16 : behind 6000 5 1 (pos 200) (Some request.Stop) ≡ over 7
+  pub stop_bad : in_each (pos 2000001) (Some request.Stop) ≡ replicate 3 (over 7)
+  pub stop_overloaded : in_each (pos 110000) (Some request.Stop) ≡ replicate 3 (over 7)
   -- in the ticks in which 14, 15 and 16 would end, and in that in which the clock would pass the limit
   pub stop-at-end :
-      behind 6000 2 0 (pos 1000) request.Stop ∷ behind 6000 5 0 (pos 200) request.Stop ∷ behind 6000 5 3 (pos 200) request.Stop ∷ []
+      behind 6000 2 0 (pos 1000) (Some request.Stop) ∷ behind 6000 5 0 (pos 200) (Some request.Stop) ∷ behind 6000 5 3 (pos 200) (Some request.Stop) ∷ []
       ≡ replicate 3 (over 7)
-  pub stop_past_limit : behind 5 5 3 (pos 200) request.Stop ≡ over 7
+  pub stop_past_limit : behind 5 5 3 (pos 200) (Some request.Stop) ≡ over 7
   -- "Stop in stage 00 changes nothing.": the error stands, in a bad tick too, until the next BD
   pub stop-twice :
       course 3 3 6000
-      (leg 1 (pos 1000) request.Discharge ∷ leg 1 (pos 2000001) request.Stop ∷ leg 1 (pos 1000) request.Stop
-      ∷ leg 1 (pos 2000001) request.Nothing ∷ leg 1 (pos 1000) request.Discharge ∷ [])
+      (leg 1 (pos 1000) (Some request.Discharge) ∷ leg 1 (pos 2000001) (Some request.Stop) ∷ leg 1 (pos 1000) (Some request.Stop)
+      ∷ leg 1 (pos 2000001) None ∷ leg 1 (pos 1000) (Some request.Discharge) ∷ [])
       ≡ record {
         stages = 14 ∷ 0 ∷ 0 ∷ 0 ∷ 14 ∷ [];
         gates = shut ∷ shut ∷ shut ∷ shut ∷ shut ∷ [];
@@ -415,15 +415,15 @@ pub record Discharged : Type 0 where
         after = 14 ∷ 0 ∷ 1 ∷ 10 ∷ 1 ∷ [];
       }
   -- "a bad or overloaded tick error 9": in each of the three; one below zero is "at most near zero", and overloaded
-  pub bad_in_each : in_each (pos 2000001) request.Nothing ≡ replicate 3 (over 9)
-  pub overloaded_in_each : in_each (pos 110000) request.Nothing ≡ replicate 3 (over 9)
-  pub overloaded_below : behind 6000 3 0 (minus 110000) request.Nothing ≡ over 9
+  pub bad_in_each : in_each (pos 2000001) None ≡ replicate 3 (over 9)
+  pub overloaded_in_each : in_each (pos 110000) None ≡ replicate 3 (over 9)
+  pub overloaded_below : behind 6000 3 0 (minus 110000) None ≡ over 9
   -- "tested first, then the clock": the clock passes the limit in that tick
-  pub bad_past_limit : behind 5 5 3 (pos 2000001) request.Nothing ≡ over 9
-  pub overloaded_past_limit : behind 5 5 3 (pos 110000) request.Nothing ≡ over 9
+  pub bad_past_limit : behind 5 5 3 (pos 2000001) None ≡ over 9
+  pub overloaded_past_limit : behind 5 5 3 (pos 110000) None ≡ over 9
   -- 10,008 is no overload, 10,009 is one
   pub overload-from :
-      course 3 3 6000 (drained 3 0 ++ (leg 1 (pos 100080) request.Nothing ∷ leg 1 (pos 100090) request.Nothing ∷ []))
+      course 3 3 6000 (drained 3 0 ++ (leg 1 (pos 100080) None ∷ leg 1 (pos 100090) None ∷ []))
       ≡ record {
         stages = 14 ∷ 14 ∷ 14 ∷ 15 ∷ 15 ∷ 0 ∷ [];
         gates = shut ∷ shut ∷ shut ∷ emptying ∷ emptying ∷ shut ∷ [];
@@ -437,10 +437,10 @@ pub record Discharged : Type 0 where
   pub judged_under : judged_behind (Some judgement.Under) ≡ replicate 4 3
   pub judged_none : judged_behind None ≡ replicate 4 0
   -- a discharge is no batch: the undo behind it takes back the batch before it
-  pub then_nothing : after_then request.Nothing ≡ 0 ∷ 0 ∷ 1 ∷ 10 ∷ 1 ∷ []
-  pub then_undo : after_then request.Undo ≡ 0 ∷ 0 ∷ 1 ∷ 0 ∷ 0 ∷ []
+  pub then_nothing : after_then None ≡ 0 ∷ 0 ∷ 1 ∷ 10 ∷ 1 ∷ []
+  pub then_undo : after_then (Some request.Undo) ≡ 0 ∷ 0 ∷ 1 ∷ 0 ∷ 0 ∷ []
   -- "An accepted start makes the judgement none again."
-  pub then_start : after_then request.Start ≡ 3 ∷ 0 ∷ 0 ∷ 10 ∷ 1 ∷ []
+  pub then_start : after_then (Some request.Start) ≡ 3 ∷ 0 ∷ 0 ∷ 10 ∷ 1 ∷ []
   -- "BD, like BB, clears the error": that of a batch, error 4, where nothing was judged
   pub stopped-batch :
       stopped_batch
@@ -486,7 +486,7 @@ pub record Discharged : Type 0 where
 -- what BD is answered at this count, and the stage and error after it
 abbrev pub bid_at : Settings → State → ℤ → List ℕ
 bid_at s st count =
-    let a = told s st count request.Discharge in
+    let a = told s st count (Some request.Discharge) in
     outcome_number a.outcome ∷ stage_number a.stage ∷ error_number a.error ∷ []
 
 -- in a fit tick, a bad one and an overloaded one
@@ -504,7 +504,7 @@ settings_loss3 = settings_of (given_of (set (list_out 3 3 6000) 11 (pos 2)))
 -- in 09: F 500, at 100
 abbrev pub feed_legs : List Leg
 feed_legs =
-    leg 1 (pos 1000) (request.Set (setpoints 500 0 0 0)) ∷ leg 1 (pos 1000) request.Start ∷ leg 2 (pos 1000) request.Nothing ∷ []
+    leg 1 (pos 1000) (Some (request.Set (setpoints 500 0 0 0))) ∷ leg 1 (pos 1000) (Some request.Start) ∷ leg 2 (pos 1000) None ∷ []
 
 -- in 14, 15 and 16
 abbrev pub in14 : State
@@ -517,10 +517,10 @@ abbrev pub in16 : State
 in16 = state_after settings3 (drained 5 1) before
 
 -- every request, and setpoints that break the rules beside others that keep them
-abbrev pub every : List Request
+abbrev pub every : List (Option Request)
 every =
-    request.Zero ∷ request.Tare ∷ request.TareClear ∷ request.Start ∷ request.Set points ∷ request.Set (setpoints 1 2 0 0)
-    ∷ request.Discharge ∷ request.Stop ∷ request.TotalClear ∷ request.Undo ∷ request.ShowGross ∷ request.ShowNet ∷ request.DayClose ∷ []
+    (Some request.Zero) ∷ (Some request.Tare) ∷ (Some request.TareClear) ∷ (Some request.Start) ∷ Some (request.Set points) ∷ Some (request.Set (setpoints 1 2 0 0))
+    ∷ (Some request.Discharge) ∷ (Some request.Stop) ∷ (Some request.TotalClear) ∷ (Some request.Undo) ∷ (Some request.ShowGross) ∷ (Some request.ShowNet) ∷ (Some request.DayClose) ∷ []
 
 -- what each is answered in such a state at this count, and the stage and the error after each
 pub record Asked : Type 0 where
@@ -565,7 +565,7 @@ abbrev pub calm : State
 calm = state_after settings3 (drained 14 0) before
 
 -- in 15, after a tick with this request
-abbrev pub with15 : Request → State
+abbrev pub with15 : Option Request → State
 with15 r = (tick_at settings3 in15 (pos 1000) r).state
 
 -- ---- settings
@@ -588,7 +588,7 @@ said s st count text = heard s st count (line text)
 
 -- mode 2 in stage 00
 abbrev pub loss_idle : State
-loss_idle = state_after settings_loss3 (leg 1 (pos 1000) request.Nothing ∷ []) open_state
+loss_idle = state_after settings_loss3 (leg 1 (pos 1000) None ∷ []) open_state
 
 -- BD with room for a reply of n bytes: what it is told, and the stage after it
 abbrev pub told_within : ℕ → List ℕ
@@ -606,13 +606,13 @@ pub record Requested : Type 0 where
   pub bid_16 : bids settings3 in16 ≡ (3 ∷ 16 ∷ 0 ∷ []) ∷ (1 ∷ 0 ∷ 9 ∷ []) ∷ (2 ∷ 0 ∷ 9 ∷ []) ∷ []
   -- mode 2: in 00, where error 4 stands after a stop; in 09
   pub bid-loss-idle :
-      bids settings_loss3 (state_after settings_loss3 (feed_legs ++ (leg 1 (pos 1000) request.Stop ∷ [])) open_state)
+      bids settings_loss3 (state_after settings_loss3 (feed_legs ++ (leg 1 (pos 1000) (Some request.Stop) ∷ [])) open_state)
       ≡ (9 ∷ 0 ∷ 4 ∷ []) ∷ (1 ∷ 0 ∷ 4 ∷ []) ∷ (2 ∷ 0 ∷ 4 ∷ []) ∷ []
   pub bid-loss-running :
       bids settings_loss3 (state_after settings_loss3 feed_legs open_state) ≡ (3 ∷ 9 ∷ 0 ∷ []) ∷ (1 ∷ 0 ∷ 9 ∷ []) ∷ (2 ∷ 0 ∷ 9 ∷ []) ∷ []
   -- 4 is not to a discharge: the first tick is not stable
   pub bid_unstable : bid_at settings3 open_state (pos 1000) ≡ 0 ∷ 14 ∷ 0 ∷ []
-  pub bid_unstable_tick : (told settings3 open_state (pos 1000) request.Discharge).reading.stable ≡ false
+  pub bid_unstable_tick : (told settings3 open_state (pos 1000) (Some request.Discharge)).reading.stable ≡ false
   -- "| 3 | stage is not 00 |": to zero, tare, tare clear, start and BD in 14, 15 and 16; to no other (A5: not to setpoints)
   -- "the rest of the tick goes on": but for the stop each tick is as without a request
   pub fit_14 : asked in14 (pos 1000) ≡ asked_fit 14
@@ -626,16 +626,16 @@ pub record Requested : Type 0 where
   pub overload_16 : asked in16 (pos 110000) ≡ asked_overloaded
   -- 3 where the tick is stable too
   pub calm_answers : asked calm (pos 1000) ≡ asked_fit 15
-  pub calm_stable : (told settings3 calm (pos 1000) request.Nothing).reading.stable ≡ true
+  pub calm_stable : (told settings3 calm (pos 1000) None).reading.stable ≡ true
   -- undo, total clear, show net and day close do in 15 what they always do; without a batch there is nothing to take back
-  pub undo_in_15 : standing (with15 request.Undo) ≡ 15 ∷ 0 ∷ 1 ∷ 0 ∷ 0 ∷ []
-  pub clear_in_15 : standing (with15 request.TotalClear) ≡ 15 ∷ 0 ∷ 1 ∷ 0 ∷ 0 ∷ []
-  pub clear_then_undo : outcome_number (told settings3 (with15 request.TotalClear) (pos 1000) request.Undo).outcome ≡ 7
-  pub undo_none : outcome_number (told settings3 (state_after settings3 (drained 0 0) open_state) (pos 1000) request.Undo).outcome ≡ 7
-  pub net_in_15 : (with15 request.ShowNet).panel.display ≡ display.Net
-  pub gross_in_15 : (with15 request.ShowGross).panel.display ≡ display.Gross
+  pub undo_in_15 : standing (with15 (Some request.Undo)) ≡ 15 ∷ 0 ∷ 1 ∷ 0 ∷ 0 ∷ []
+  pub clear_in_15 : standing (with15 (Some request.TotalClear)) ≡ 15 ∷ 0 ∷ 1 ∷ 0 ∷ 0 ∷ []
+  pub clear_then_undo : outcome_number (told settings3 (with15 (Some request.TotalClear)) (pos 1000) (Some request.Undo)).outcome ≡ 7
+  pub undo_none : outcome_number (told settings3 (state_after settings3 (drained 0 0) open_state) (pos 1000) (Some request.Undo)).outcome ≡ 7
+  pub net_in_15 : (with15 (Some request.ShowNet)).panel.display ≡ display.Net
+  pub gross_in_15 : (with15 (Some request.ShowGross)).panel.display ≡ display.Gross
   pub close-in-15 :
-      closed_values (told settings3 in15 (pos 1000) request.DayClose).closed ≡ pos 0 ∷ pos 0 ∷ minus 1000 ∷ pos 0 ∷ pos 1000 ∷ []
+      closed_values (told settings3 in15 (pos 1000) (Some request.DayClose)).closed ≡ pos 0 ∷ pos 0 ∷ minus 1000 ∷ pos 0 ∷ pos 1000 ∷ []
   -- "Both delays are 0..9,999 ticks.", "its own limit (1..60,000 ticks)": in mode 2 too, though it has no discharge
   pub delay_start : delay_answers 1 22 ≡ 10 ∷ 0 ∷ 0 ∷ 10 ∷ []
   pub delay_after : delay_answers 1 23 ≡ 10 ∷ 0 ∷ 0 ∷ 10 ∷ []

@@ -1,6 +1,6 @@
 -- The outline's section "Figures on both sides", as statements: `Starred` has a field for each starred row, named by its row. They are
 -- proved in proofs/Figures.antt, by computing whole runs through the definitions.
-use Rattle.std.specs.Prelude.{ℕ, zero, suc, ◌≡◌, Bool, true, false, not, ◌&&◌, replicate, get_or, set, ℤ, pos, neg_ℤ, ◌+ℤ◌, ◌-ℤ◌, Some}
+use Rattle.std.specs.Prelude.{ℕ, zero, suc, ◌≡◌, Bool, true, false, not, ◌&&◌, replicate, get_or, set, ℤ, pos, neg_ℤ, ◌+ℤ◌, ◌-ℤ◌, Some, Option, None}
 use mathlib.Core.List.{List, [], ◌∷◌, foldl}
 use Rattle.std.specs.Float.{fin}
 use Rattle.types.specs.declared.settings.Given.{Given}
@@ -72,13 +72,13 @@ settings_volts = settings_of (given_of (set (set (set list_a 19 (pos 2)) 20 (pos
 
 -- ---- runs
 -- a tick with the contact open, and what it answers
-abbrev pub tick_at : Settings → State → ℤ → Request → Ticked
+abbrev pub tick_at : Settings → State → ℤ → Option Request → Ticked
 tick_at s st count r = tick_of s st (record { count = count; contact = false; request = r })
 
-abbrev pub told : Settings → State → ℤ → Request → Answer
+abbrev pub told : Settings → State → ℤ → Option Request → Answer
 told s st count r = (tick_at s st count r).answer
 
-abbrev pub next : State → ℤ → Request → State
+abbrev pub next : State → ℤ → Option Request → State
 next st count r = (tick_at settings_a st count r).state
 
 -- a count held for n ticks
@@ -94,7 +94,7 @@ setpoints f ff p op = record { target = f; fall = ff; preliminary = p; optional 
 
 -- one batch of 10: started at 0 in stage 00, 10 reached, stable, finished
 abbrev pub started : State
-started = next (next open_state (pos 0) (request.Set (setpoints 10 0 0 0))) (pos 0) request.Start
+started = next (next open_state (pos 0) (Some (request.Set (setpoints 10 0 0 0)))) (pos 0) (Some request.Start)
 
 abbrev pub one_batch : State
 one_batch = held 103 (held 2 started (pos 0)) (pos 100)
@@ -106,28 +106,28 @@ pub record Starred : Type 0 where
   pub opened : opened_of (open_of (given_of list_a)) ≡ open_state ∷ []
   pub s_99999 : opening_number (open_of (given_of (set list_a 1 (pos 99999)))) ≡ 10
   -- "| count 44; 45; -45 * | 4; 5; -5 |"
-  pub count_44 : (told settings_a open_state (pos 44) request.Nothing).reading.gross ≡ pos 4
-  pub count_45 : (told settings_a open_state (pos 45) request.Nothing).reading.gross ≡ pos 5
-  pub count_minus_45 : (told settings_a open_state (minus 45) request.Nothing).reading.gross ≡ minus 5
+  pub count_44 : (told settings_a open_state (pos 44) None).reading.gross ≡ pos 4
+  pub count_45 : (told settings_a open_state (pos 45) None).reading.gross ≡ pos 5
+  pub count_minus_45 : (told settings_a open_state (minus 45) None).reading.gross ≡ minus 5
   -- "| 45 with d 5 * | 25 |"
-  pub count_45_with_d_5 : (told settings_d5 open_state (pos 45) request.Nothing).reading.gross ≡ pos 25
+  pub count_45_with_d_5 : (told settings_d5 open_state (pos 45) None).reading.gross ≡ pos 25
   -- "| 100,084; 100,085 * | 10,008; overload |"
-  pub count_100084 : (told settings_a open_state (pos 100084) request.Nothing).reading.gross ≡ pos 10008
-  pub count_100084_fits : (told settings_a open_state (pos 100084) request.Nothing).reading.overload ≡ false
-  pub count_100085 : (told settings_a open_state (pos 100085) request.Nothing).reading.overload ≡ true
+  pub count_100084 : (told settings_a open_state (pos 100084) None).reading.gross ≡ pos 10008
+  pub count_100084_fits : (told settings_a open_state (pos 100084) None).reading.overload ≡ false
+  pub count_100085 : (told settings_a open_state (pos 100085) None).reading.overload ≡ true
   -- "| zero at 2,000; 2,001, stable * | 0; 5 |"
-  pub zero_at_2000 : outcome_number (told settings_a (steady (pos 2000)) (pos 2000) request.Zero).outcome ≡ 0
-  pub zero_at_2001 : outcome_number (told settings_a (steady (pos 2001)) (pos 2001) request.Zero).outcome ≡ 5
+  pub zero_at_2000 : outcome_number (told settings_a (steady (pos 2000)) (pos 2000) (Some request.Zero)).outcome ≡ 0
+  pub zero_at_2001 : outcome_number (told settings_a (steady (pos 2001)) (pos 2001) (Some request.Zero)).outcome ≡ 5
   -- "| F 1000, FF 20, P 20 * | 6 |"
-  pub p_at_ff : outcome_number (told settings_a open_state (pos 0) (request.Set (setpoints 1000 20 20 0))).outcome ≡ 6
+  pub p_at_ff : outcome_number (told settings_a open_state (pos 0) (Some (request.Set (setpoints 1000 20 20 0)))).outcome ≡ 6
   -- "| F 1000, P 0, OP 300, FF 20 * | 0 |"
-  pub op_without_p : outcome_number (told settings_a open_state (pos 0) (request.Set (setpoints 1000 20 0 300))).outcome ≡ 0
+  pub op_without_p : outcome_number (told settings_a open_state (pos 0) (Some (request.Set (setpoints 1000 20 0 300)))).outcome ≡ 0
   -- "| undo twice after one batch * | 0, then 7 |"
   pub one_batch_lem : (one_batch.totals.total ≡ 10) × (one_batch.totals.count ≡ 1)
-  pub undo_once : outcome_number (told settings_a one_batch (pos 100) request.Undo).outcome ≡ 0
-  pub undo_twice : outcome_number (told settings_a (next one_batch (pos 100) request.Undo) (pos 100) request.Undo).outcome ≡ 7
+  pub undo_once : outcome_number (told settings_a one_batch (pos 100) (Some request.Undo)).outcome ≡ 0
+  pub undo_twice : outcome_number (told settings_a (next one_batch (pos 100) (Some request.Undo)) (pos 100) (Some request.Undo)).outcome ≡ 7
   -- "| ends 100 and 0, weight 100, voltage * | +0.0, not -0.0 |"
-  pub volts_at_low_end : (told settings_volts open_state (pos 1000) request.Nothing).analog ≡ Some (analog.Voltage (fin false 0 (pos 0)))
+  pub volts_at_low_end : (told settings_volts open_state (pos 1000) None).analog ≡ Some (analog.Voltage (fin false 0 (pos 0)))
 
 -- ---- the rows that are run and compared, computed here as well
 -- a fall of 5, held 100 ticks
@@ -135,17 +135,17 @@ abbrev pub fall_to : State → ℤ → State
 fall_to st count = held 100 st count
 
 abbrev pub four_falls : State
-four_falls = fall_to (fall_to (fall_to (fall_to (next open_state (pos 0) request.Nothing) (minus 5)) (minus 10)) (minus 15)) (minus 20)
+four_falls = fall_to (fall_to (fall_to (fall_to (next open_state (pos 0) None) (minus 5)) (minus 10)) (minus 15)) (minus 20)
 
 -- the last tick of all, the 501st
 abbrev pub last_of_falls : Ticked
-last_of_falls = tick_at settings_a (held 99 four_falls (minus 25)) (minus 25) request.Nothing
+last_of_falls = tick_at settings_a (held 99 four_falls (minus 25)) (minus 25) None
 
 -- "Input `0 0 --`, `-30 0 --`, `100 1 --`, `60 0 DC`"
 abbrev pub before_close : State
 before_close =
-    let two = next (next open_state (pos 0) request.Nothing) (minus 30) request.Nothing in
-    (tick_of settings_a two (record { count = pos 100; contact = true; request = request.Nothing })).state
+    let two = next (next open_state (pos 0) None) (minus 30) None in
+    (tick_of settings_a two (record { count = pos 100; contact = true; request = None })).state
 
 pub record Runs : Type 0 where
   -- "| one tick at 0, five falls of 5, each held 100 ticks | zero -20, gross -1, used 25 |"
@@ -154,7 +154,7 @@ pub record Runs : Type 0 where
   pub used_after_falls : last_of_falls.state.book.used ≡ pos 25
   -- the ticket: opening 0, refilled 90, used 30 (A2), unbooked 0, closing 60
   pub ticket :
-      closed_values (told settings_a before_close (pos 60) request.DayClose).closed ≡ pos 0 ∷ pos 90 ∷ pos 30 ∷ pos 0 ∷ pos 60 ∷ []
+      closed_values (told settings_a before_close (pos 60) (Some request.DayClose)).closed ≡ pos 0 ∷ pos 90 ∷ pos 30 ∷ pos 0 ∷ pos 60 ∷ []
 
 -- ---- both sides of each range of the settings' table
 -- a place of the list, the least and the most that settings A allow there

@@ -30,20 +30,20 @@ elsewhere = record { zeroes = false; closes = false; writes = None; skips = fals
 abbrev pub skipping : Kind
 skipping = record { zeroes = false; closes = false; writes = None; skips = true; ledger = nothing }
 
-abbrev pub request_kind : Request → Kind
-request_kind request.Nothing = elsewhere
-request_kind request.Zero = record { zeroes = true; closes = false; writes = None; skips = false; ledger = nothing }
-request_kind request.Tare = elsewhere
-request_kind request.TareClear = elsewhere
-request_kind request.Start = skipping
-request_kind request.Stop = skipping
-request_kind (request.Set p) = record { zeroes = false; closes = false; writes = Some p; skips = false; ledger = nothing }
-request_kind request.TotalClear = record { zeroes = false; closes = false; writes = None; skips = false; ledger = clear }
-request_kind request.Undo = record { zeroes = false; closes = false; writes = None; skips = false; ledger = undo }
-request_kind request.ShowGross = elsewhere
-request_kind request.ShowNet = elsewhere
-request_kind request.DayClose = record { zeroes = false; closes = true; writes = None; skips = false; ledger = nothing }
-request_kind request.Discharge = skipping
+abbrev pub request_kind : Option Request → Kind
+request_kind None = elsewhere
+request_kind (Some request.Zero) = record { zeroes = true; closes = false; writes = None; skips = false; ledger = nothing }
+request_kind (Some request.Tare) = elsewhere
+request_kind (Some request.TareClear) = elsewhere
+request_kind (Some request.Start) = skipping
+request_kind (Some request.Stop) = skipping
+request_kind (Some (request.Set p)) = record { zeroes = false; closes = false; writes = Some p; skips = false; ledger = nothing }
+request_kind (Some request.TotalClear) = record { zeroes = false; closes = false; writes = None; skips = false; ledger = clear }
+request_kind (Some request.Undo) = record { zeroes = false; closes = false; writes = None; skips = false; ledger = undo }
+request_kind (Some request.ShowGross) = elsewhere
+request_kind (Some request.ShowNet) = elsewhere
+request_kind (Some request.DayClose) = record { zeroes = false; closes = true; writes = None; skips = false; ledger = nothing }
+request_kind (Some request.Discharge) = skipping
 
 -- setpoints are written
 abbrev pub is_write : Option Setpoints → Bool

@@ -1,10 +1,9 @@
 -- The outline's section "Figures on both sides", its last part: the lines that the ticket program reads. A line is the list of its bytes,
 -- without the LF that ends it.
-use Rattle.std.specs.Prelude.{ℕ, suc, ◌+◌, ◌-◌, ◌*◌, List, [], ◌∷◌, ◌++◌, Bool, true, false, cond, ◌&&◌, ◌||◌, length, get_or, take, drop, leb, ltb, eqb, ℤ, pos, neg_ℤ, Option, Some, None, Ok}
+use Rattle.std.specs.Prelude.{ℕ, suc, ◌+◌, ◌-◌, ◌*◌, List, [], ◌∷◌, ◌++◌, Bool, cond, ◌&&◌, ◌||◌, length, get_or, take, drop, leb, ltb, eqb, ℤ, pos, neg_ℤ, Option, Some, None, Ok}
 use Rattle.types.specs.declared.settings.Settings.{Settings}
 use Rattle.types.specs.declared.machine.State.{State}
 use Rattle.types.specs.declared.lines.LineTick.{LineTick}
-use Rattle.types.specs.declared.lines.LineRefusal.TheVariants as told
 use Rattle.types.specs.declared.log.LogNumber.{LogNumber}
 use Rattle.types.specs.declared.log.LogLine.{LogLine}
 use Rattle.types.specs.declared.log.Line.{Line}

@@ -1,6 +1,6 @@
 -- The ticket program, worked by hand: which lines can be read and which can't, the lines of an input, the text of a ticket. Statements;
 -- they are computed in proofs/LogFigures.antt.
-use Rattle.std.specs.Prelude.{ℕ, ◌≡◌, Bool, true, false, List, [], ◌∷◌, ◌++◌, replicate, pos, None, Option}
+use Rattle.std.specs.Prelude.{ℕ, ◌≡◌, Bool, true, false, List, [], ◌∷◌, ◌++◌, replicate, pos, None, Option, Some}
 use Prim.Native.String.{String}
 use Rattle.types.specs.declared.requests.Request.TheVariants as request
 use Rattle.types.specs.declared.machine.Ticked.{Ticked}
@@ -94,20 +94,20 @@ ticket_after t = ticket_text t.answer.closed t.state.weighing t.state.totals
 pub record Tickets : Type 0 where
   -- "prints, whole", with A2: "refilled=90, used=30, the rest as printed"
   pub worked :
-      ticket_after (tick_at settings_a before_close (pos 60) request.DayClose)
+      ticket_after (tick_at settings_a before_close (pos 60) (Some request.DayClose))
       ≡ printed "opening=0" ++ printed "refilled=90" ++ printed "used=30" ++ printed "unbooked=0" ++ printed "closing=60"
       ++ printed "tracked=0" ++ printed "batches=0" ++ printed "total=0"
   -- below zero: the five falls closed, and the day of one batch, which rises with the contact open
   pub falls :
-      ticket_after (tick_at settings_a last_of_falls.state (minus 25) request.DayClose)
+      ticket_after (tick_at settings_a last_of_falls.state (minus 25) (Some request.DayClose))
       ≡ printed "opening=0" ++ printed "refilled=0" ++ printed "used=25" ++ printed "unbooked=0" ++ printed "closing=-25"
       ++ printed "tracked=-20" ++ printed "batches=0" ++ printed "total=0"
   pub one_batch_lem :
-      ticket_after (tick_at settings_a one_batch (pos 100) request.DayClose)
+      ticket_after (tick_at settings_a one_batch (pos 100) (Some request.DayClose))
       ≡ printed "opening=0" ++ printed "refilled=0" ++ printed "used=-100" ++ printed "unbooked=0" ++ printed "closing=100"
       ++ printed "tracked=0" ++ printed "batches=1" ++ printed "total=10"
   -- a close that is refused, here in a bad tick
-  pub none : ticket_after (tick_at settings_a before_close (pos 2000001) request.DayClose) ≡ []
+  pub none : ticket_after (tick_at settings_a before_close (pos 2000001) (Some request.DayClose)) ≡ []
   -- tracked, and not the zero, of which a keyed one is a part
   pub left :
       left_text (record { zero = pos 7; tracked = minus 3; tare = pos 5; counter = 2 })

@@ -6,8 +6,6 @@ use Rattle.types.specs.declared.settings.Mode.TheVariants as mode
 use Rattle.types.specs.declared.analog.Board.TheVariants as board
 use Rattle.types.specs.declared.weight.Display.TheVariants as display
 use Rattle.types.specs.declared.stages.Stage.TheVariants as stage
-use Rattle.types.specs.declared.stages.SequenceError.TheVariants as error
-use Rattle.types.specs.declared.stages.Judgement.TheVariants as judgement
 use Rattle.types.specs.declared.machine.State.{State}
 use Rattle.outline.specs.Analog.{f64}
 use Rattle.outline.specs.Settings.{open_of}

@@ -1,13 +1,10 @@
 -- Worked by hand from the outline: all outputs of the first tick, near zero and full at their limits, the analog value of what is
 -- displayed, and the longest block. Statements; they are computed in proofs/OutputFigures.antt.
-use Rattle.std.specs.Prelude.{ℕ, ◌≡◌, Bool, true, false, List, [], ◌∷◌, ◌++◌, replicate, set, ℤ, pos, Float, None, Ok, Option}
+use Rattle.std.specs.Prelude.{ℕ, ◌≡◌, Bool, true, false, List, [], ◌∷◌, ◌++◌, replicate, set, ℤ, pos, Float, None, Ok, Option, Some}
 use Rattle.types.specs.declared.settings.Settings.{Settings}
 use Rattle.types.specs.declared.analog.Analog.{Analog}
-use Rattle.types.specs.declared.analog.Analog.TheVariants as analog
 use Rattle.types.specs.declared.requests.Request.TheVariants as request
 use Rattle.types.specs.declared.stages.Stage.TheVariants as stage
-use Rattle.types.specs.declared.stages.SequenceError.TheVariants as error
-use Rattle.types.specs.declared.stages.Judgement.TheVariants as judgement
 use Rattle.types.specs.declared.stages.Setpoints.{Setpoints}
 use Rattle.types.specs.declared.machine.Answer.{Answer}
 use Rattle.outline.specs.Analog.{f64}
@@ -21,7 +18,7 @@ use Rattle.outline.specs.RequestFigures.{settings10, tared}
 
 -- ---- the first tick after the opening
 abbrev pub first : ℤ → Answer
-first count = told settings_a open_state count request.Nothing
+first count = told settings_a open_state count None
 
 abbrev pub first_answer : ℤ → Bool → Answer
 first_answer gross near = record {
@@ -42,13 +39,13 @@ abbrev pub limits_set : Setpoints
 limits_set = record { target = 100; fall = 0; preliminary = 0; optional = 50; over = 0; under = 0; near = 5 }
 
 abbrev pub with_limits : Settings → ℤ → Answer
-with_limits s count = told s (tick_at s open_state (pos 0) (request.Set limits_set)).state count request.Nothing
+with_limits s count = told s (tick_at s open_state (pos 0) (Some (request.Set limits_set))).state count None
 
 abbrev pub near_at : ℤ → Bool
 near_at count = (with_limits settings_a count).near
 
 abbrev pub near_tared : ℤ → Bool
-near_tared count = (told settings10 tared count request.Nothing).near
+near_tared count = (told settings10 tared count None).near
 
 abbrev pub full_at : ℤ → Bool
 full_at count = (with_limits settings_loss count).full
@@ -59,7 +56,7 @@ abbrev pub on_board : ℕ → Settings
 on_board b = settings_of (given_of (set list_a 19 (pos b)))
 
 abbrev pub first_analog : ℕ → ℤ → Option Analog
-first_analog b count = (told (on_board b) open_state count request.Nothing).analog
+first_analog b count = (told (on_board b) open_state count None).analog
 
 abbrev pub analog_in : List Answer → List (List Float)
 analog_in [] = []
@@ -70,10 +67,10 @@ abbrev pub shown_in : ℕ → List Leg → List (List Float)
 shown_in b legs = analog_in (answers (settings_of (given_of (set (set (set list_a 9 (pos 10)) 19 (pos b)) 21 (pos 100)))) legs tared)
 
 abbrev pub show_net : List Leg
-show_net = leg 1 (pos 600) request.ShowNet ∷ leg 1 (pos 600) request.Nothing ∷ []
+show_net = leg 1 (pos 600) (Some request.ShowNet) ∷ leg 1 (pos 600) None ∷ []
 
 abbrev pub show_gross : List Leg
-show_gross = leg 1 (pos 600) request.ShowGross ∷ leg 1 (pos 600) request.Nothing ∷ []
+show_gross = leg 1 (pos 600) (Some request.ShowGross) ∷ leg 1 (pos 600) None ∷ []
 
 -- one value, a whole number of mA or V
 abbrev pub number : ℕ → List Float
@@ -100,7 +97,7 @@ pub record Displayed : Type 0 where
   pub analog_current : analog_values (first_analog 1 (pos 0)) ∷ analog_values (first_analog 1 (pos 100000)) ∷ [] ≡ number 4 ∷ number 20 ∷ []
   pub analog_voltage : analog_values (first_analog 2 (pos 0)) ∷ analog_values (first_analog 2 (pos 100000)) ∷ [] ≡ number 0 ∷ number 10 ∷ []
   -- "show gross and show net choose the displayed weight.", "x = displayed weight - low end": ends 0 and 100, gross 60, net 50
-  pub volts_of_gross : shown_in 2 (leg 1 (pos 600) request.Nothing ∷ []) ≡ number 6 ∷ []
+  pub volts_of_gross : shown_in 2 (leg 1 (pos 600) None ∷ []) ≡ number 6 ∷ []
   pub volts_of_net : shown_in 2 show_net ≡ number 5 ∷ number 5 ∷ []
   pub volts_of_gross_again : shown_in 2 (show_net ++ show_gross) ≡ number 5 ∷ number 5 ∷ number 6 ∷ number 6 ∷ []
   pub current_of_net : shown_in 1 show_net ≡ number 12 ∷ number 12 ∷ []

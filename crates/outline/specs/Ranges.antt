@@ -1,5 +1,5 @@
 -- The range of every field of the state, under settings s: what no run leaves. A field that has no use is 0.
-use Rattle.std.specs.Prelude.{◌+◌, ◌*◌, ◌<◌, ◌≤◌, max, ◌≡◌, Bool, true, false, not, ◌&&◌, ◌||◌, eqb, pos, nat_abs, ◌+ℤ◌, ◌-ℤ◌, ◌*ℤ◌, Option, None, Some, ℤ, ℕ}
+use Rattle.std.specs.Prelude.{◌+◌, ◌*◌, ◌<◌, ◌≤◌, max, ◌≡◌, Bool, true, false, not, ◌&&◌, ◌||◌, eqb, pos, nat_abs, ◌+ℤ◌, ◌-ℤ◌, ◌*ℤ◌, Option, None, Some, ℕ}
 use Rattle.std.specs.Int.Signed.{le_z}
 use Rattle.types.specs.declared.settings.Range.{Range}
 use Rattle.types.specs.declared.settings.Tracking.{Tracking}
@@ -17,7 +17,6 @@ use Rattle.types.specs.declared.stages.Stage.{Stage}
 use Rattle.types.specs.declared.stages.Stage.TheVariants.{Idle, StartDelay, LargeDisable, LargeFlow, MediumDisable, MediumFlow}
 use Rattle.types.specs.declared.stages.Stage.TheVariants.{SmallDisable, SmallFlow, JudgeDelay, JudgeWait, DischargeStart, Discharge}
 use Rattle.types.specs.declared.stages.Stage.TheVariants.{DischargeEnd}
-use Rattle.types.specs.declared.stages.Judgement.TheVariants as judgement
 use Rattle.types.specs.declared.stages.SequenceError.{SequenceError}
 use Rattle.types.specs.declared.stages.SequenceError.TheVariants as error
 use Rattle.types.specs.declared.stages.Sequence.{Sequence}

@@ -12,22 +12,22 @@ use Rattle.outline.specs.Figures.{minus, settings_a}
 
 -- ---- ticks: with the contact open, with it closed; a day close in each of them; a bad tick, and a day close in one
 abbrev pub draw : ℤ → Input
-draw count = record { count = count; contact = false; request = request.Nothing }
+draw count = record { count = count; contact = false; request = None }
 
 abbrev pub fill : ℤ → Input
-fill count = record { count = count; contact = true; request = request.Nothing }
+fill count = record { count = count; contact = true; request = None }
 
 abbrev pub close : ℤ → Input
-close count = record { count = count; contact = false; request = request.DayClose }
+close count = record { count = count; contact = false; request = Some request.DayClose }
 
 abbrev pub close_filling : ℤ → Input
-close_filling count = record { count = count; contact = true; request = request.DayClose }
+close_filling count = record { count = count; contact = true; request = Some request.DayClose }
 
 abbrev pub bad : Bool → Input
-bad contact = record { count = pos 2000001; contact = contact; request = request.Nothing }
+bad contact = record { count = pos 2000001; contact = contact; request = None }
 
 abbrev pub bad_close : Bool → Input
-bad_close contact = record { count = pos 2000001; contact = contact; request = request.DayClose }
+bad_close contact = record { count = pos 2000001; contact = contact; request = Some request.DayClose }
 
 -- ---- what stands in the book, in the order of a ticket: opening, refilled, used, unbooked, last or closing
 abbrev pub row : ℤ → ℤ → ℤ → ℤ → ℤ → List ℤ

@@ -94,31 +94,31 @@ reply_text address (Some (reply.Refused n)) = framed address (refused_text n)
 
 -- ---- what a command asks of its tick, what reply is due to it, what it is told
 -- "A line comes with a tick and is that tick's request": "CT, DT, CA are tare clear, total clear, undo." A read asks for nothing.
-abbrev pub word_request : Word → Request
-word_request word.ReadWeight = request.Nothing
-word_request word.ReadTotal = request.Nothing
-word_request word.ReadSetpoints = request.Nothing
-word_request word.Zero = request.Zero
-word_request word.Tare = request.Tare
-word_request word.TareClear = request.TareClear
-word_request word.ShowGross = request.ShowGross
-word_request word.ShowNet = request.ShowNet
-word_request word.Start = request.Start
-word_request word.Stop = request.Stop
-word_request word.TotalClear = request.TotalClear
-word_request word.Undo = request.Undo
-word_request word.DayClose = request.DayClose
-word_request word.Discharge = request.Discharge
+abbrev pub word_request : Word → Option Request
+word_request word.ReadWeight = None
+word_request word.ReadTotal = None
+word_request word.ReadSetpoints = None
+word_request word.Zero = Some request.Zero
+word_request word.Tare = Some request.Tare
+word_request word.TareClear = Some request.TareClear
+word_request word.ShowGross = Some request.ShowGross
+word_request word.ShowNet = Some request.ShowNet
+word_request word.Start = Some request.Start
+word_request word.Stop = Some request.Stop
+word_request word.TotalClear = Some request.TotalClear
+word_request word.Undo = Some request.Undo
+word_request word.DayClose = Some request.DayClose
+word_request word.Discharge = Some request.Discharge
 
 -- "After any of 11 to 14 the request is not done and the tick runs as if it had none."
-unfoldable pub request_of : Result Order LineFault → Request
+unfoldable pub request_of : Result Order LineFault → Option Request
 request_of (Ok (order.Do w)) = word_request w
-request_of (Ok (order.Set p)) = request.Set p
-request_of (Err fault.NoLine) = request.Nothing
-request_of (Err fault.LongLine) = request.Nothing
-request_of (Err fault.OtherAddress) = request.Nothing
-request_of (Err fault.Malformed) = request.Nothing
-request_of (Err fault.Unknown) = request.Nothing
+request_of (Ok (order.Set p)) = Some (request.Set p)
+request_of (Err fault.NoLine) = None
+request_of (Err fault.LongLine) = None
+request_of (Err fault.OtherAddress) = None
+request_of (Err fault.Malformed) = None
+request_of (Err fault.Unknown) = None
 
 abbrev pub shows_net : Display → Bool
 shows_net display.Gross = false

@@ -1,5 +1,5 @@
 -- The outline's section "Requests and their answers": step 4 of a tick.
-use Rattle.std.specs.Prelude.{Bool, true, false, cond, not, ◌&&◌, List, [], ◌∷◌, pos, None, Some, Result, Ok, Err}
+use Rattle.std.specs.Prelude.{Bool, true, false, cond, not, ◌&&◌, List, [], ◌∷◌, pos, None, Some, Result, Ok, Err, Option}
 use Rattle.types.specs.declared.settings.Range.{Range}
 use Rattle.types.specs.declared.settings.Mode.{Mode}
 use Rattle.types.specs.declared.settings.Mode.TheVariants as mode
@@ -73,29 +73,29 @@ row9 m = record { number = refusal.LossInWeight; applies = loss_mode m }
 
 -- The column "To", turned: the rows that each request can meet, in the order in which they are tested: the numerical order, except that 8
 -- is "tested after 3 and before 4" (A6). "Stop, total clear, show gross and show net are never refused here."
-abbrev pub rows_to : Range → Mode → Sequence → Totals → Weights → Request → List Row
-rows_to range mode q t x request.Nothing = []
-rows_to range mode q t x request.Zero = row1 x ∷ row2 x ∷ row3 q ∷ row8 x.contact ∷ row4 x ∷ row5 (in_zero_range range x.raw) ∷ []
-rows_to range mode q t x request.Tare = row1 x ∷ row2 x ∷ row3 q ∷ row4 x ∷ row5 (in_tare_range range x.divisions) ∷ []
-rows_to range mode q t x request.TareClear = row3 q ∷ []
-rows_to range mode q t x request.Start = row1 x ∷ row2 x ∷ row3 q ∷ []
-rows_to range mode q t x request.Stop = []
+abbrev pub rows_to : Range → Mode → Sequence → Totals → Weights → Option Request → List Row
+rows_to range mode q t x None = []
+rows_to range mode q t x (Some request.Zero) = row1 x ∷ row2 x ∷ row3 q ∷ row8 x.contact ∷ row4 x ∷ row5 (in_zero_range range x.raw) ∷ []
+rows_to range mode q t x (Some request.Tare) = row1 x ∷ row2 x ∷ row3 q ∷ row4 x ∷ row5 (in_tare_range range x.divisions) ∷ []
+rows_to range mode q t x (Some request.TareClear) = row3 q ∷ []
+rows_to range mode q t x (Some request.Start) = row1 x ∷ row2 x ∷ row3 q ∷ []
+rows_to range mode q t x (Some request.Stop) = []
 -- A5: "setpoints no longer answer 3; 6 stands."
-rows_to range mode q t x (request.Set p) = row6 (setpoints_fit mode p) ∷ []
-rows_to range mode q t x request.TotalClear = []
-rows_to range mode q t x request.Undo = row7 t ∷ []
-rows_to range mode q t x request.ShowGross = []
-rows_to range mode q t x request.ShowNet = []
-rows_to range mode q t x request.DayClose = row1 x ∷ []
+rows_to range mode q t x (Some (request.Set p)) = row6 (setpoints_fit mode p) ∷ []
+rows_to range mode q t x (Some request.TotalClear) = []
+rows_to range mode q t x (Some request.Undo) = row7 t ∷ []
+rows_to range mode q t x (Some request.ShowGross) = []
+rows_to range mode q t x (Some request.ShowNet) = []
+rows_to range mode q t x (Some request.DayClose) = row1 x ∷ []
 -- A1: "BD takes 1, 2, 3 as start does, then 9 in mode 2."
-rows_to range mode q t x request.Discharge = row1 x ∷ row2 x ∷ row3 q ∷ row9 mode ∷ []
+rows_to range mode q t x (Some request.Discharge) = row1 x ∷ row2 x ∷ row3 q ∷ row9 mode ∷ []
 
 -- "0 is accepted or nothing asked. Otherwise the first that applies, in numerical order.": the first of those rows
 abbrev pub first_of : List Row → Result (Unit {0}) Refusal
 first_of [] = Ok tt
 first_of (r ∷ rs) = cond r.applies (Err r.number) (first_of rs)
 
-unfoldable pub ruling_of : Settings → State → Weights → Request → Result (Unit {0}) Refusal
+unfoldable pub ruling_of : Settings → State → Weights → Option Request → Result (Unit {0}) Refusal
 ruling_of s st x r = first_of (rows_to s.range s.batching.mode st.sequence st.totals x r)
 
 abbrev pub done_of : Result (Unit {0}) Refusal → Bool
@@ -141,21 +141,21 @@ abbrev pub stored_of : State → Setpoints → State
 stored_of st p =
     with_waiting (with_setpoints st (cond (idle_now st) p st.setpoints)) (cond (idle_now st) st.waiting (waiting_for p))
 
-unfoldable pub granted_of : State → Weights → Request → Settled
-granted_of st x request.Nothing = plainly st
-granted_of st x request.Zero = keying (with_weighing st (zeroed_of st.weighing x.raw))
-granted_of st x request.Tare = plainly (with_weighing st (tared_of st.weighing x.gross))
+unfoldable pub granted_of : State → Weights → Option Request → Settled
+granted_of st x None = plainly st
+granted_of st x (Some request.Zero) = keying (with_weighing st (zeroed_of st.weighing x.raw))
+granted_of st x (Some request.Tare) = plainly (with_weighing st (tared_of st.weighing x.gross))
 -- "Tare clear makes tare 0; total clear makes total and count 0; show gross and show net choose the displayed weight."
-granted_of st x request.TareClear = plainly (with_weighing st (tared_of st.weighing (pos 0)))
-granted_of st x request.Start = holding (with_sequence st start_sequence)
-granted_of st x request.Stop = holding (stopped_of st)
-granted_of st x (request.Set p) = plainly (stored_of st p)
-granted_of st x request.TotalClear = plainly (with_totals st clear_totals)
-granted_of st x request.Undo = plainly (with_totals st (taken_back st.totals))
-granted_of st x request.ShowGross = plainly (with_display st display.Gross)
-granted_of st x request.ShowNet = plainly (with_display st display.Net)
-granted_of st x request.DayClose = closing st
-granted_of st x request.Discharge = holding (with_sequence st (discharge_sequence st.sequence))
+granted_of st x (Some request.TareClear) = plainly (with_weighing st (tared_of st.weighing (pos 0)))
+granted_of st x (Some request.Start) = holding (with_sequence st start_sequence)
+granted_of st x (Some request.Stop) = holding (stopped_of st)
+granted_of st x (Some (request.Set p)) = plainly (stored_of st p)
+granted_of st x (Some request.TotalClear) = plainly (with_totals st clear_totals)
+granted_of st x (Some request.Undo) = plainly (with_totals st (taken_back st.totals))
+granted_of st x (Some request.ShowGross) = plainly (with_display st display.Gross)
+granted_of st x (Some request.ShowNet) = plainly (with_display st display.Net)
+granted_of st x (Some request.DayClose) = closing st
+granted_of st x (Some request.Discharge) = holding (with_sequence st (discharge_sequence st.sequence))
 
 -- "A refused request changes nothing; the rest of the tick goes on."
 abbrev pub unless_refused : Result (Unit {0}) Refusal → State → Settled → Settled
@@ -168,10 +168,10 @@ unless_refused o st granted = record {
 }
 
 -- the request that is done: none where it is refused
-abbrev pub grant_of : Result (Unit {0}) Refusal → Request → Request
+abbrev pub grant_of : Result (Unit {0}) Refusal → Option Request → Option Request
 grant_of (Ok tt) r = r
-grant_of (Err n) r = request.Nothing
+grant_of (Err n) r = None
 
 -- step 4
-unfoldable pub decided_of : Settings → State → Weights → Request → Settled
+unfoldable pub decided_of : Settings → State → Weights → Option Request → Settled
 decided_of s st x r = unless_refused (ruling_of s st x r) st (granted_of st x r)

@@ -1,6 +1,6 @@
 -- Worked by hand from the outline: batches with five delays of their own, errors in every stage, judgement, and booking at its limits.
 -- Statements; they are computed in proofs/StageFigures.antt.
-use Rattle.std.specs.Prelude.{ℕ, ◌≡◌, List, [], ◌∷◌, ◌++◌, replicate, set, ℤ, pos, None}
+use Rattle.std.specs.Prelude.{ℕ, ◌≡◌, List, [], ◌∷◌, ◌++◌, replicate, set, ℤ, pos, None, Some}
 use Rattle.types.specs.declared.settings.Settings.{Settings}
 use Rattle.types.specs.declared.requests.Request.TheVariants as request
 use Rattle.types.specs.declared.stages.Totals.{Totals}
@@ -20,23 +20,23 @@ settings_delays =
     settings_of (given_of (set (set (set (set (set (set list_a 9 (pos 10)) 12 (pos 2)) 13 (pos 3)) 14 (pos 4)) 15 (pos 5)) 16 (pos 6)))
 
 abbrev pub start : List Leg
-start = leg 1 (pos 0) (request.Set (setpoints 100 10 30 60)) ∷ leg 1 (pos 0) request.Start ∷ []
+start = leg 1 (pos 0) (Some (request.Set (setpoints 100 10 30 60))) ∷ leg 1 (pos 0) (Some request.Start) ∷ []
 
 -- six ticks at 0, then 90 divisions, which every flow stage waits for; it finishes in the nineteenth tick at 90
 abbrev pub delayed : List Leg
-delayed = start ++ (leg 6 (pos 0) request.Nothing ∷ leg 19 (pos 900) request.Nothing ∷ [])
+delayed = start ++ (leg 6 (pos 0) None ∷ leg 19 (pos 900) None ∷ [])
 
 -- 40 divisions from the second tick of 04 on: enough for 05, and too little for 07
 abbrev pub ahead : List Leg
-ahead = start ++ (leg 2 (pos 0) request.Nothing ∷ leg 10 (pos 400) request.Nothing ∷ [])
+ahead = start ++ (leg 2 (pos 0) None ∷ leg 10 (pos 400) None ∷ [])
 
 -- ---- a stage a tick: all delays 0; after the start n ticks at 0, of which the second enters 05, and m at 90 divisions
 abbrev pub quick : ℕ → ℕ → List Leg
-quick n m = start ++ (leg n (pos 0) request.Nothing ∷ leg m (pos 900) request.Nothing ∷ [])
+quick n m = start ++ (leg n (pos 0) None ∷ leg m (pos 900) None ∷ [])
 
 -- what stands after one tick more, with this count
 abbrev pub broken_at : ℤ → ℕ → ℕ → List ℕ
-broken_at count n m = standing (state_after settings10 (quick n m ++ (leg 1 count request.Nothing ∷ [])) open_state)
+broken_at count n m = standing (state_after settings10 (quick n m ++ (leg 1 count None ∷ [])) open_state)
 
 -- in each stage from 03 to 11
 abbrev pub broken : ℤ → List (List ℕ)
@@ -50,33 +50,33 @@ abbrev pub settings_large : Settings
 settings_large = settings_of (given_of (set (set list_a 17 (pos 3)) 13 (pos 10)))
 
 abbrev pub late_in_large : List Leg
-late_in_large = start ++ (leg 6 (pos 0) request.Nothing ∷ [])
+late_in_large = start ++ (leg 6 (pos 0) None ∷ [])
 
 -- ---- an unfit finish: F 10; after ten ticks at 10,008 divisions the stage is 11 and the run 9, in the next tick it is 10
 abbrev pub finish_at : ℤ → List ℕ
 finish_at count =
     standing
     (state_after settings10
-    (leg 1 (pos 0) (request.Set (setpoints 10 0 0 0)) ∷ leg 1 (pos 0) request.Start ∷ leg 2 (pos 0) request.Nothing
-    ∷ leg 10 (pos 100084) request.Nothing ∷ leg 1 count request.Nothing ∷ [])
+    (leg 1 (pos 0) (Some (request.Set (setpoints 10 0 0 0))) ∷ leg 1 (pos 0) (Some request.Start) ∷ leg 2 (pos 0) None
+    ∷ leg 10 (pos 100084) None ∷ leg 1 count None ∷ [])
     open_state)
 
 -- ---- v: a tare of 100, F 50, FF 10: started at 100 divisions, v is 0; then 130 and 140, v is 30 and 40
 abbrev pub tare_legs : List Leg
 tare_legs =
-    leg 10 (pos 1000) request.Nothing ∷ leg 1 (pos 1000) request.Tare ∷ leg 1 (pos 1000) (request.Set (setpoints 50 10 0 0))
-    ∷ leg 1 (pos 1000) request.Start ∷ []
+    leg 10 (pos 1000) None ∷ leg 1 (pos 1000) (Some request.Tare) ∷ leg 1 (pos 1000) (Some (request.Set (setpoints 50 10 0 0)))
+    ∷ leg 1 (pos 1000) (Some request.Start) ∷ []
 
 abbrev pub net_legs : List Leg
-net_legs = leg 3 (pos 1000) request.Nothing ∷ leg 1 (pos 1300) request.Nothing ∷ leg 11 (pos 1400) request.Nothing ∷ []
+net_legs = leg 3 (pos 1000) None ∷ leg 1 (pos 1300) None ∷ leg 11 (pos 1400) None ∷ []
 
 -- ---- judgement: F 10, FF 10, over 1, under 3, from -10 divisions; it finishes at v
 abbrev pub judged_at : ℤ → ℕ
 judged_at count =
     judgement_number
     (state_after settings10
-    (leg 1 (minus 100) (request.Set (record { target = 10; fall = 10; preliminary = 0; optional = 0; over = 1; under = 3; near = 0 }))
-    ∷ leg 1 (minus 100) request.Start ∷ leg 1 (minus 100) request.Nothing ∷ leg 11 count request.Nothing ∷ [])
+    (leg 1 (minus 100) (Some (request.Set (record { target = 10; fall = 10; preliminary = 0; optional = 0; over = 1; under = 3; near = 0 })))
+    ∷ leg 1 (minus 100) (Some request.Start) ∷ leg 1 (minus 100) None ∷ leg 11 count None ∷ [])
     open_state).sequence.judgement
 
 -- ---- booking: total, count and error where a batch of v finishes with these

@@ -7,15 +7,12 @@ use Rattle.types.specs.declared.settings.Settings.{Settings}
 use Rattle.types.specs.declared.requests.Request.TheVariants as request
 use Rattle.types.specs.declared.requests.Refusal.TheVariants as refusal
 use Rattle.types.specs.declared.stages.Setpoints.{Setpoints}
-use Rattle.types.specs.declared.stages.SequenceError.TheVariants as error
 use Rattle.types.specs.declared.stages.Gates.{Gates}
 use Rattle.types.specs.declared.stages.Totals.{Totals}
 use Rattle.types.specs.declared.machine.State.{State}
 use Rattle.types.specs.declared.machine.Input.{Input}
 use Rattle.types.specs.declared.machine.Answer.{Answer}
 use Rattle.types.specs.declared.lines.Order.TheVariants as order
-use Rattle.types.specs.declared.lines.LineFault.TheVariants as fault
-use Rattle.types.specs.declared.lines.LineRefusal.TheVariants as told
 use Rattle.types.specs.declared.lines.LineTick.{LineTick}
 use Rattle.types.specs.declared.lines.Word.TheVariants as word
 use Rattle.outline.specs.Limits.{block_limit, total_limit, batch_limit}
@@ -138,7 +135,7 @@ ReadBack = (s : Settings) → Accepted s → (h : History Input) (count : ℤ) (
 
 -- ---- 10. what a day close answers is the book that the same tick without the close would have left
 abbrev pub Ticket : Type 0
-Ticket = (s : Settings) (st : State) (i : Input) → i.request ≡ request.DayClose → (tick_of s st i).answer.outcome ≡ Ok tt
+Ticket = (s : Settings) (st : State) (i : Input) → i.request ≡ Some request.DayClose → (tick_of s st i).answer.outcome ≡ Ok tt
     → (tick_of s st i).answer.closed ≡ Some (next_of s st (without_request i)).book
 
 -- ---- 11. blocks, ticks with lines and ticks of a log are runs
@@ -179,7 +176,7 @@ pub record Kept (s : Settings) (st : State) (i : Input) : Type 0 where
 
 -- in the tick that begins it, and in every tick that finds it under way, the one that ends it too, whether by near zero or by an error
 pub record Discharges (s : Settings) (st : State) (i : Input) : Type 0 where
-  pub begins : i.request ≡ request.Discharge → (tick_of s st i).answer.outcome ≡ Ok tt → Kept s st i
+  pub begins : i.request ≡ Some request.Discharge → (tick_of s st i).answer.outcome ≡ Ok tt → Kept s st i
   pub goes_on : discharging_of st.sequence.stage ≡ true → Kept s st i
 
 abbrev pub DischargeIsNoBatch : Type 0
@@ -226,7 +223,7 @@ WaitingAside = (s : Settings) (st : State) (w : Option Setpoints) (i : Input)
 
 -- ---- 19. A5: and a write outside 00, in the tick of a finish or an error too, does no more than none does to any part but the two sets
 abbrev pub WriteAside : Type 0
-WriteAside = (s : Settings) (st : State) (i : Input) (p : Setpoints) → idle_now st ≡ false → i.request ≡ request.Set p
+WriteAside = (s : Settings) (st : State) (i : Input) (p : Setpoints) → idle_now st ≡ false → i.request ≡ Some (request.Set p)
     → beside_sets (next_of s st i) ≡ beside_sets (next_of s st (without_request i))
 
 -- ---- 20. A6: in whatever state, a tick with the refill contact closed leaves the zero in force as it was, whatever is asked. It leaves
@@ -236,8 +233,8 @@ pub record Connected (s : Settings) (st : State) (i : Input) : Type 0 where
   pub zero : (next_of s st i).weighing.zero ≡ st.weighing.zero
   pub tracked : (next_of s st i).weighing.tracked ≡ st.weighing.tracked
   pub counter : (next_of s st i).weighing.counter ≡ 0
-  pub refused : i.request ≡ request.Zero → done_of (tick_of s st i).answer.outcome ≡ false
-  pub number : i.request ≡ request.Zero → fit_of (served_of s st i) ≡ true → idle_now st ≡ true
+  pub refused : i.request ≡ Some request.Zero → done_of (tick_of s st i).answer.outcome ≡ false
+  pub number : i.request ≡ Some request.Zero → fit_of (served_of s st i) ≡ true → idle_now st ≡ true
       → (tick_of s st i).answer.outcome ≡ Err refusal.ContactClosed
 
 abbrev pub ZeroWhileConnected : Type 0
@@ -280,7 +277,7 @@ pub record AlikeOpen (s : Settings) (st : State) (i : Input) : Type 0 where
   pub state : beside_zero (next_of s st i) ≡ beside_zero (next_of s st (contact_open i))
 
 abbrev pub ToZeroOnly : Type 0
-ToZeroOnly = (s : Settings) (st : State) (i : Input) → (i.request ≡ request.Zero → ⊥) → AlikeOpen s st i
+ToZeroOnly = (s : Settings) (st : State) (i : Input) → (i.request ≡ Some request.Zero → ⊥) → AlikeOpen s st i
 
 -- ---- 23. A6 narrows no range: what the program before it could reach still keeps all that is asked of a state, so that its images pass.
 -- To that program the contact was of the day book alone: its tick is today's with the contact open, with the book of today's.

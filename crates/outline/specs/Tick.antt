@@ -4,7 +4,6 @@ use mathlib.Core.List.{List, [], ◌∷◌, foldl}
 use Rattle.types.specs.declared.settings.Settings.{Settings}
 use Rattle.types.specs.declared.weight.Weights.{Weights}
 use Rattle.types.specs.declared.weight.Display.TheVariants as display
-use Rattle.types.specs.declared.requests.Request.TheVariants as request
 use Rattle.types.specs.declared.stages.Advanced.{Advanced}
 use Rattle.types.specs.declared.machine.State.{State}
 use Rattle.types.specs.declared.machine.Input.{Input}
@@ -116,7 +115,7 @@ tick_of s st i = record { state = next_of s st i; answer = outputs_of s (settled
 
 -- the input of a tick that is asked nothing
 abbrev pub unasked_of : ℤ → Bool → Input
-unasked_of count contact = record { count = count; contact = contact; request = request.Nothing }
+unasked_of count contact = record { count = count; contact = contact; request = None }
 
 -- ---- blocks
 -- one count of a block: a tick with the block's contact and no request

@@ -1,6 +1,6 @@
 -- Worked by hand from request A5: setpoints that are written while a batch or a discharge runs. Statements; they are computed in
 -- proofs/WaitingFigures.antt.
-use Rattle.std.specs.Prelude.{ℕ, ◌≡◌, true, false, [], ◌∷◌, ℤ, pos, Option}
+use Rattle.std.specs.Prelude.{ℕ, ◌≡◌, true, false, [], ◌∷◌, ℤ, pos, Option, None, Some}
 use Rattle.types.specs.declared.requests.Request.TheVariants as request
 use Rattle.types.specs.declared.stages.Setpoints.{Setpoints}
 use Rattle.types.specs.declared.machine.State.{State}
@@ -31,10 +31,10 @@ lax = record { target = 10; fall = 0; preliminary = 0; optional = 0; over = 5; u
 abbrev pub fed : ℕ → State
 fed n =
     after
-    (leg 1 (pos 0) (request.Set old) ∷ leg 1 (pos 0) request.Start ∷ leg 1 (pos 0) request.Nothing ∷ leg n (pos 100) request.Nothing ∷ [])
+    (leg 1 (pos 0) (Some (request.Set old)) ∷ leg 1 (pos 0) (Some request.Start) ∷ leg 1 (pos 0) None ∷ leg n (pos 100) None ∷ [])
 
 abbrev pub in03 : State
-in03 = after (leg 1 (pos 0) (request.Set old) ∷ leg 1 (pos 0) request.Start ∷ [])
+in03 = after (leg 1 (pos 0) (Some (request.Set old)) ∷ leg 1 (pos 0) (Some request.Start) ∷ [])
 
 abbrev pub in08 : State
 in08 = fed 0
@@ -52,31 +52,31 @@ in11 = fed 3
 abbrev pub written : Setpoints → State
 written p =
     after
-    (leg 1 (pos 0) (request.Set old) ∷ leg 1 (pos 0) request.Start ∷ leg 2 (pos 0) request.Nothing ∷ leg 1 (pos 0) (request.Set p) ∷ [])
+    (leg 1 (pos 0) (Some (request.Set old)) ∷ leg 1 (pos 0) (Some request.Start) ∷ leg 2 (pos 0) None ∷ leg 1 (pos 0) (Some (request.Set p)) ∷ [])
 
 abbrev pub waits : State
 waits = written new
 
 -- from there at 100: v is 10, the old F and not the new, so 10, 11, and the finish in the eleventh tick
 abbrev pub went_on : ℕ → State
-went_on n = state_after settings10 (leg n (pos 100) request.Nothing ∷ []) waits
+went_on n = state_after settings10 (leg n (pos 100) None ∷ []) waits
 
 -- a second batch after that one, with a write in 03; it is in 08
 abbrev pub again : State
-again = state_after settings10 (leg 1 (pos 100) request.Start ∷ leg 1 (pos 100) (request.Set newer) ∷ []) (went_on 11)
+again = state_after settings10 (leg 1 (pos 100) (Some request.Start) ∷ leg 1 (pos 100) (Some (request.Set newer)) ∷ []) (went_on 11)
 
 -- a write of these, and then this count until the batch finishes
 abbrev pub finish_at : ℤ → Setpoints → State
-finish_at count p = state_after settings10 (leg 11 count request.Nothing ∷ []) (written p)
+finish_at count p = state_after settings10 (leg 11 count None ∷ []) (written p)
 
 -- a discharge at 100, above the near zero of 0: 14, 15; at 0, 16; and then 00
 abbrev pub emptying : State
 emptying =
     after
-    (leg 1 (pos 100) (request.Set old) ∷ leg 1 (pos 100) request.Discharge ∷ leg 1 (pos 100) request.Nothing ∷ [])
+    (leg 1 (pos 100) (Some (request.Set old)) ∷ leg 1 (pos 100) (Some request.Discharge) ∷ leg 1 (pos 100) None ∷ [])
 
 abbrev pub in16 : State
-in16 = state_after settings10 (leg 1 (pos 100) (request.Set new) ∷ leg 1 (pos 0) request.Nothing ∷ []) emptying
+in16 = state_after settings10 (leg 1 (pos 100) (Some (request.Set new)) ∷ leg 1 (pos 0) None ∷ []) emptying
 
 -- what stands of both sets
 abbrev pub Sets : State → Setpoints → Option Setpoints → Type 0
@@ -85,18 +85,18 @@ Sets st p w = (st.setpoints ≡ p) × (st.waiting ≡ w)
 pub record Waited : Type 0 where
   -- "setpoints no longer answer 3; 6 stands.": in 03, 08, 09, 10, 11, 15 and 16, and in a bad tick
   pub not-3 :
-      number in03 (pos 0) (request.Set new) ∷ number in08 (pos 0) (request.Set new) ∷ number in09 (pos 100) (request.Set new)
-      ∷ number in10 (pos 100) (request.Set new) ∷ number in11 (pos 100) (request.Set new) ∷ number emptying (pos 100) (request.Set new)
-      ∷ number in16 (pos 0) (request.Set new) ∷ number in09 (pos 2000001) (request.Set new) ∷ []
+      number in03 (pos 0) (Some (request.Set new)) ∷ number in08 (pos 0) (Some (request.Set new)) ∷ number in09 (pos 100) (Some (request.Set new))
+      ∷ number in10 (pos 100) (Some (request.Set new)) ∷ number in11 (pos 100) (Some (request.Set new)) ∷ number emptying (pos 100) (Some (request.Set new))
+      ∷ number in16 (pos 0) (Some (request.Set new)) ∷ number in09 (pos 2000001) (Some (request.Set new)) ∷ []
       ≡ 0 ∷ 0 ∷ 0 ∷ 0 ∷ 0 ∷ 0 ∷ 0 ∷ 0 ∷ []
-  pub broken : number waits (pos 0) (request.Set (setpoints 1 2 0 0)) ≡ 6
-  pub broken_waits : Sets (tick_at settings10 waits (pos 0) (request.Set (setpoints 1 2 0 0))).state old (waiting_for new)
+  pub broken : number waits (pos 0) (Some (request.Set (setpoints 1 2 0 0))) ≡ 6
+  pub broken_waits : Sets (tick_at settings10 waits (pos 0) (Some (request.Set (setpoints 1 2 0 0)))).state old (waiting_for new)
   -- "A write in any stage but 00 goes to a waiting set beside the one in use"; in 00 it is in use at once
-  pub in_00 : Sets (tick_at settings10 open_state (pos 0) (request.Set new)).state new none_waiting
+  pub in_00 : Sets (tick_at settings10 open_state (pos 0) (Some (request.Set new))).state new none_waiting
   pub in_09 : Sets waits old (waiting_for new)
-  pub in_15 : Sets (tick_at settings10 emptying (pos 100) (request.Set new)).state old (waiting_for new)
+  pub in_15 : Sets (tick_at settings10 emptying (pos 100) (Some (request.Set new))).state old (waiting_for new)
   -- "a second write replaces the first"
-  pub second : Sets (tick_at settings10 waits (pos 0) (request.Set newer)).state old (waiting_for newer)
+  pub second : Sets (tick_at settings10 waits (pos 0) (Some (request.Set newer))).state old (waiting_for newer)
   -- the batch goes on by the old set: 10 after the first tick at 100; in 11 both sets are as they were
   pub by_the_old : standing (went_on 1) ≡ 10 ∷ 0 ∷ 0 ∷ 0 ∷ 0 ∷ []
   pub still_waits : Sets (went_on 10) old (waiting_for new)
@@ -107,27 +107,27 @@ pub record Waited : Type 0 where
   pub finished_over : standing (finish_at (pos 130) lax) ≡ 0 ∷ 0 ∷ 2 ∷ 13 ∷ 1 ∷ []
   pub finished_over_sets : Sets (finish_at (pos 130) lax) lax none_waiting
   -- near zero of the finishing tick is by the new set
-  pub finished_near : (told settings10 (went_on 10) (pos 100) request.Nothing).near ≡ true
+  pub finished_near : (told settings10 (went_on 10) (pos 100) None).near ≡ true
   -- "by finish or error": a bad tick; by stop, whose own tick has its near zero by the new set: gross 15 is above 0 and below 20
-  pub failed : standing (tick_at settings10 waits (pos 2000001) request.Nothing).state ≡ 0 ∷ 9 ∷ 0 ∷ 0 ∷ 0 ∷ []
-  pub failed_sets : Sets (tick_at settings10 waits (pos 2000001) request.Nothing).state new none_waiting
-  pub stopped_sets : Sets (tick_at settings10 waits (pos 150) request.Stop).state new none_waiting
-  pub stopped_near : (told settings10 waits (pos 150) request.Stop).near ≡ true
+  pub failed : standing (tick_at settings10 waits (pos 2000001) None).state ≡ 0 ∷ 9 ∷ 0 ∷ 0 ∷ 0 ∷ []
+  pub failed_sets : Sets (tick_at settings10 waits (pos 2000001) None).state new none_waiting
+  pub stopped_sets : Sets (tick_at settings10 waits (pos 150) (Some request.Stop)).state new none_waiting
+  pub stopped_near : (told settings10 waits (pos 150) (Some request.Stop)).near ≡ true
   -- and by the end of a discharge
   pub in_16 : Sets in16 old (waiting_for new)
-  pub emptied : Sets (tick_at settings10 in16 (pos 0) request.Nothing).state new none_waiting
+  pub emptied : Sets (tick_at settings10 in16 (pos 0) None).state new none_waiting
   -- a write in the finishing tick waits in step 4 and is in use after step 6; the judgement is by the old set
-  pub with_finish : standing (tick_at settings10 (fed 10) (pos 100) (request.Set new)).state ≡ 0 ∷ 0 ∷ 1 ∷ 10 ∷ 1 ∷ []
-  pub with_finish_sets : Sets (tick_at settings10 (fed 10) (pos 100) (request.Set new)).state new none_waiting
+  pub with_finish : standing (tick_at settings10 (fed 10) (pos 100) (Some (request.Set new))).state ≡ 0 ∷ 0 ∷ 1 ∷ 10 ∷ 1 ∷ []
+  pub with_finish_sets : Sets (tick_at settings10 (fed 10) (pos 100) (Some (request.Set new))).state new none_waiting
   -- a start after that is by the new set: F 50 is not reached at 10
   pub next-batch :
-      standing (state_after settings10 (leg 1 (pos 100) request.Start ∷ leg 3 (pos 100) request.Nothing ∷ []) (went_on 11))
+      standing (state_after settings10 (leg 1 (pos 100) (Some request.Start) ∷ leg 3 (pos 100) None ∷ []) (went_on 11))
       ≡ 9 ∷ 0 ∷ 0 ∷ 10 ∷ 1 ∷ []
   -- total clear and undo leave both sets
-  pub cleared : standing (tick_at settings10 again (pos 100) request.TotalClear).state ≡ 9 ∷ 0 ∷ 0 ∷ 0 ∷ 0 ∷ []
-  pub cleared_sets : Sets (tick_at settings10 again (pos 100) request.TotalClear).state new (waiting_for newer)
-  pub undone : standing (tick_at settings10 again (pos 100) request.Undo).state ≡ 9 ∷ 0 ∷ 0 ∷ 0 ∷ 0 ∷ []
-  pub undone_sets : Sets (tick_at settings10 again (pos 100) request.Undo).state new (waiting_for newer)
+  pub cleared : standing (tick_at settings10 again (pos 100) (Some request.TotalClear)).state ≡ 9 ∷ 0 ∷ 0 ∷ 0 ∷ 0 ∷ []
+  pub cleared_sets : Sets (tick_at settings10 again (pos 100) (Some request.TotalClear)).state new (waiting_for newer)
+  pub undone : standing (tick_at settings10 again (pos 100) (Some request.Undo)).state ≡ 9 ∷ 0 ∷ 0 ∷ 0 ∷ 0 ∷ []
+  pub undone_sets : Sets (tick_at settings10 again (pos 100) (Some request.Undo)).state new (waiting_for newer)
   -- 14, where SS has no room for its reply: the write is not done, and what waited waits on
   pub no_room :
       Sets (line_tick_of settings10 waits (pos 0) false (line "SS000070000000000000000000000000000000000020") (0 ∷ 0 ∷ 0 ∷ [])).state old
@@ -137,7 +137,7 @@ pub record Waited : Type 0 where
   pub noughts_read : reply settings10 (written open_setpoints) (pos 0) (line "RS") 44 ≡ line "000000000000000000000000000000000000000000"
   pub noughts-next :
       standing
-      (state_after settings10 (leg 1 (pos 100) request.Start ∷ leg 1 (pos 100) request.Nothing ∷ []) (finish_at (pos 100) open_setpoints))
+      (state_after settings10 (leg 1 (pos 100) (Some request.Start) ∷ leg 1 (pos 100) None ∷ []) (finish_at (pos 100) open_setpoints))
       ≡ 0 ∷ 1 ∷ 0 ∷ 10 ∷ 1 ∷ []
   -- "RS reads the waiting set if there is one.": in 09, in the finishing tick, and after it
   pub read_waiting : reply settings10 waits (pos 0) (line "RS") 44 ≡ line "000050000000000000000000000000000000000020"

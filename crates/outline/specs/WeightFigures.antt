@@ -1,6 +1,6 @@
 -- Worked by hand from the outline: tracking, stability and capacity, each at its limit. Statements; they are computed in
 -- proofs/WeightFigures.antt.
-use Rattle.std.specs.Prelude.{ℕ, ◌≡◌, Bool, true, false, List, [], ◌∷◌, ◌++◌, replicate, set, ℤ, pos}
+use Rattle.std.specs.Prelude.{ℕ, ◌≡◌, Bool, true, false, List, [], ◌∷◌, ◌++◌, replicate, set, ℤ, pos, Option, None, Some}
 use Rattle.types.specs.declared.settings.Settings.{Settings}
 use Rattle.types.specs.declared.requests.Request.{Request}
 use Rattle.types.specs.declared.requests.Request.TheVariants as request
@@ -25,12 +25,12 @@ zeroes st = st.weighing.zero ∷ st.weighing.tracked ∷ []
 
 -- with q 10, after n ticks at this count
 abbrev pub tracked_at : ℕ → ℤ → List ℤ
-tracked_at n count = zeroes (state_after (settings_q 10) (leg n count request.Nothing ∷ []) open_state)
+tracked_at n count = zeroes (state_after (settings_q 10) (leg n count None ∷ []) open_state)
 
 -- a tick at each of these counts
 abbrev pub ticks_at : List ℤ → List Leg
 ticks_at [] = []
-ticks_at (count ∷ l) = leg 1 count request.Nothing ∷ ticks_at l
+ticks_at (count ∷ l) = leg 1 count None ∷ ticks_at l
 
 -- with q 1, after a tick at each of these counts
 abbrev pub tracked_through : List ℤ → List ℤ
@@ -49,7 +49,7 @@ near_in (a ∷ l) = a.near ∷ near_in l
 
 -- with q 2, three ticks at 5: the second moves the zero to 5
 abbrev pub three_at_five : List Answer
-three_at_five = answers (settings_q 2) (leg 3 (pos 5) request.Nothing ∷ []) open_state
+three_at_five = answers (settings_q 2) (leg 3 (pos 5) None ∷ []) open_state
 
 -- ---- stability, with k 10
 abbrev pub stable_in : List Answer → List Bool
@@ -68,9 +68,9 @@ abbrev pub settings_half_span : Settings
 settings_half_span = settings_of (given_of (set (set (set list_a 9 (pos 10)) 1 (pos 50000)) 3 (pos 5000)))
 
 -- the answer to a request in the eleventh tick at this count
-abbrev pub calm_answer : ℤ → Request → ℕ
+abbrev pub calm_answer : ℤ → Option Request → ℕ
 calm_answer count r =
-    outcome_number (told settings_half_span (state_after settings_half_span (leg 10 count request.Nothing ∷ []) open_state) count r).outcome
+    outcome_number (told settings_half_span (state_after settings_half_span (leg 10 count None ∷ []) open_state) count r).outcome
 
 pub record Tracked : Type 0 where
   -- "Its counter adds one at a tick .. with |gross fine| at most w": w 5, on either side; "At q .. the zero moves to raw": q 10
@@ -87,16 +87,16 @@ pub record Tracked : Type 0 where
   -- "Step 4's weights serve steps 5, 6 and every output answered": the move shows in the next tick
   pub gross_at_move : gross_in three_at_five ≡ pos 1 ∷ pos 1 ∷ pos 0 ∷ []
   pub near_at_move : near_in three_at_five ≡ false ∷ false ∷ true ∷ []
-  pub zero_at_move : zeroes (state_after (settings_q 2) (leg 2 (pos 5) request.Nothing ∷ []) open_state) ≡ pos 5 ∷ pos 5 ∷ []
+  pub zero_at_move : zeroes (state_after (settings_q 2) (leg 2 (pos 5) None ∷ []) open_state) ≡ pos 5 ∷ pos 5 ∷ []
   -- "whose raw changed by at most 10·s adds one to the run": 20 and not 21, with s 2; "Stable when the run is k."
   pub changes_of_20 : stable_through (ticks_at (turns_of (pos 20))) ≡ replicate 10 false ++ (true ∷ [])
   pub changes_of_21 : stable_through (ticks_at (turns_of (pos 21))) ≡ replicate 11 false
   -- "a good tick after a good tick ..; any other tick makes it 0.": of twelve ticks after a bad one the last two are stable
   pub after-bad :
-      stable_through (leg 5 (pos 0) request.Nothing ∷ leg 1 (pos 2000001) request.Nothing ∷ leg 12 (pos 0) request.Nothing ∷ [])
+      stable_through (leg 5 (pos 0) None ∷ leg 1 (pos 2000001) None ∷ leg 12 (pos 0) None ∷ [])
       ≡ replicate 16 false ++ (true ∷ true ∷ [])
   -- C and not W: "overload when its magnitude exceeds C + 8", "10·|raw| is at most C·p", "gross divisions lie in 0..C"
-  pub half_span_gross : (told settings_half_span open_state (pos 60000) request.Nothing).reading.gross ≡ pos 6000
-  pub half_span_overload : (told settings_half_span open_state (pos 60000) request.Nothing).reading.overload ≡ false
-  pub half_span_zero : calm_answer (pos 2000) request.Zero ∷ calm_answer (pos 2001) request.Zero ∷ [] ≡ 0 ∷ 5 ∷ []
-  pub half_span_tare : calm_answer (pos 60000) request.Tare ≡ 0
+  pub half_span_gross : (told settings_half_span open_state (pos 60000) None).reading.gross ≡ pos 6000
+  pub half_span_overload : (told settings_half_span open_state (pos 60000) None).reading.overload ≡ false
+  pub half_span_zero : calm_answer (pos 2000) (Some request.Zero) ∷ calm_answer (pos 2001) (Some request.Zero) ∷ [] ≡ 0 ∷ 5 ∷ []
+  pub half_span_tare : calm_answer (pos 60000) (Some request.Tare) ≡ 0

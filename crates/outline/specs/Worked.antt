@@ -28,13 +28,13 @@ settings_timed =
 pub record Leg : Type 0 where
   pub ticks : ℕ
   pub count : ℤ
-  pub request : Request
+  pub request : Option Request
 
-abbrev pub leg : ℕ → ℤ → Request → Leg
+abbrev pub leg : ℕ → ℤ → Option Request → Leg
 leg n count r = record { ticks = n; count = count; request = r }
 
 -- what each tick answers, the first one first
-abbrev pub ticks_of : Settings → State → ℕ → ℤ → Request → (State → List Answer) → List Answer
+abbrev pub ticks_of : Settings → State → ℕ → ℤ → Option Request → (State → List Answer) → List Answer
 ticks_of s st zero count r rest = rest st
 ticks_of s st (suc n) count r rest = (tick_at s st count r).answer ∷ ticks_of s (tick_at s st count r).state n count r rest
 
@@ -46,9 +46,9 @@ answers s (l ∷ ls) st = ticks_of s st l.ticks l.count l.request (answers s ls)
 abbrev pub batch : List Answer
 batch =
     answers settings_timed
-    (leg 1 (pos 0) (request.Set (setpoints 100 10 30 60)) ∷ leg 1 (pos 0) request.Start ∷ leg 5 (pos 0) request.Nothing
-    ∷ leg 2 (pos 400) request.Nothing ∷ leg 1 (pos 690) request.Nothing ∷ leg 2 (pos 700) request.Nothing
-    ∷ leg 11 (pos 900) request.Nothing ∷ [])
+    (leg 1 (pos 0) (Some (request.Set (setpoints 100 10 30 60))) ∷ leg 1 (pos 0) (Some request.Start) ∷ leg 5 (pos 0) None
+    ∷ leg 2 (pos 400) None ∷ leg 1 (pos 690) None ∷ leg 2 (pos 700) None
+    ∷ leg 11 (pos 900) None ∷ [])
     open_state
 
 abbrev pub stages_in : List Answer → List ℕ
@@ -88,15 +88,15 @@ settings_q3 = settings_of (given_of (set list_a 17 (pos 3)))
 abbrev pub late : List Answer
 late =
     answers settings_q3
-    (leg 1 (pos 0) (request.Set (setpoints 10 0 0 0)) ∷ leg 1 (pos 0) request.Start ∷ leg 6 (pos 0) request.Nothing ∷ [])
+    (leg 1 (pos 0) (Some (request.Set (setpoints 10 0 0 0))) ∷ leg 1 (pos 0) (Some request.Start) ∷ leg 6 (pos 0) None ∷ [])
     open_state
 
 -- 10 reached at once and stable ten ticks later: the clock is 12 in the tick of the finish, under a flow limit of q
 abbrev pub finish_under : ℕ → List Answer
 finish_under q =
     answers (settings_of (given_of (set (set list_a 9 (pos 10)) 17 (pos q))))
-    (leg 1 (pos 0) (request.Set (setpoints 10 0 0 0)) ∷ leg 1 (pos 0) request.Start ∷ leg 2 (pos 0) request.Nothing
-    ∷ leg 11 (pos 100) request.Nothing ∷ [])
+    (leg 1 (pos 0) (Some (request.Set (setpoints 10 0 0 0))) ∷ leg 1 (pos 0) (Some request.Start) ∷ leg 2 (pos 0) None
+    ∷ leg 11 (pos 100) None ∷ [])
     open_state
 
 abbrev pub last_judgement : List Answer → Option Judgement

@@ -11,39 +11,39 @@ use types::machine::{Reading, State};
 use types::requests::Request;
 
 // The three reads ask nothing of the tick: they are answered from what it shows.
-fn word_request(w: Word) -> Request
+fn word_request(w: Word) -> Option<Request>
     ensures { result ≡ word_request w }
 {
     match w {
-        Word::ReadWeight => Request::Nothing,
-        Word::ReadTotal => Request::Nothing,
-        Word::ReadSetpoints => Request::Nothing,
-        Word::Zero => Request::Zero,
-        Word::Tare => Request::Tare,
-        Word::TareClear => Request::TareClear,
-        Word::ShowGross => Request::ShowGross,
-        Word::ShowNet => Request::ShowNet,
-        Word::Start => Request::Start,
-        Word::Stop => Request::Stop,
-        Word::TotalClear => Request::TotalClear,
-        Word::Undo => Request::Undo,
-        Word::DayClose => Request::DayClose,
-        Word::Discharge => Request::Discharge,
+        Word::ReadWeight => None,
+        Word::ReadTotal => None,
+        Word::ReadSetpoints => None,
+        Word::Zero => Some(Request::Zero),
+        Word::Tare => Some(Request::Tare),
+        Word::TareClear => Some(Request::TareClear),
+        Word::ShowGross => Some(Request::ShowGross),
+        Word::ShowNet => Some(Request::ShowNet),
+        Word::Start => Some(Request::Start),
+        Word::Stop => Some(Request::Stop),
+        Word::TotalClear => Some(Request::TotalClear),
+        Word::Undo => Some(Request::Undo),
+        Word::DayClose => Some(Request::DayClose),
+        Word::Discharge => Some(Request::Discharge),
     }
 }
 
 // A line that is refused asks for nothing, so that its tick runs as one without a request.
-pub fn request_of(c: Result<Order, LineFault>) -> Request
+pub fn request_of(c: Result<Order, LineFault>) -> Option<Request>
     ensures { result ≡ request_of c }
 {
     match c {
         Ok(Order::Do(w)) => word_request(w),
-        Ok(Order::Set(p)) => Request::Set(p),
-        Err(LineFault::NoLine) => Request::Nothing,
-        Err(LineFault::LongLine) => Request::Nothing,
-        Err(LineFault::OtherAddress) => Request::Nothing,
-        Err(LineFault::Malformed) => Request::Nothing,
-        Err(LineFault::Unknown) => Request::Nothing,
+        Ok(Order::Set(p)) => Some(Request::Set(p)),
+        Err(LineFault::NoLine) => None,
+        Err(LineFault::LongLine) => None,
+        Err(LineFault::OtherAddress) => None,
+        Err(LineFault::Malformed) => None,
+        Err(LineFault::Unknown) => None,
     }
 }
 

@@ -99,38 +99,38 @@ fn mode_ruling(mode: Mode) -> Result<(), Refusal>
 }
 
 // The table, turned: the rows that each request can meet, in the order in which they are tested, and the first that applies.
-pub fn ruling(range: Range, mode: Mode, q: Sequence, t: Totals, x: Weights, r: Request) -> Result<(), Refusal>
+pub fn ruling(range: Range, mode: Mode, q: Sequence, t: Totals, x: Weights, r: Option<Request>) -> Result<(), Refusal>
     ensures { result ≡ first_of (rows_to range mode q t x r) }
 {
     match r {
-        Request::Nothing => return Ok(()),
-        Request::Zero => {
+        None => return Ok(()),
+        Some(Request::Zero) => {
             let inside = zero::in_zero_range(range, x.raw);
             return fit_ruling(x, still_ruling(q, x, x.contact, inside));
         }
-        Request::Tare => {
+        Some(Request::Tare) => {
             let inside = zero::in_tare_range(range, x.divisions);
             return fit_ruling(x, still_ruling(q, x, false, inside));
         }
-        Request::TareClear => return idle_ruling(q, Ok(())),
-        Request::Start => return fit_ruling(x, idle_ruling(q, Ok(()))),
-        Request::Stop => return Ok(()),
-        Request::Set(p) => return set_ruling(mode, p),
-        Request::TotalClear => return Ok(()),
-        Request::Undo => return undo_ruling(t),
-        Request::ShowGross => return Ok(()),
-        Request::ShowNet => return Ok(()),
-        Request::DayClose => return good_ruling(x, Ok(())),
-        Request::Discharge => return fit_ruling(x, idle_ruling(q, mode_ruling(mode))),
+        Some(Request::TareClear) => return idle_ruling(q, Ok(())),
+        Some(Request::Start) => return fit_ruling(x, idle_ruling(q, Ok(()))),
+        Some(Request::Stop) => return Ok(()),
+        Some(Request::Set(p)) => return set_ruling(mode, p),
+        Some(Request::TotalClear) => return Ok(()),
+        Some(Request::Undo) => return undo_ruling(t),
+        Some(Request::ShowGross) => return Ok(()),
+        Some(Request::ShowNet) => return Ok(()),
+        Some(Request::DayClose) => return good_ruling(x, Ok(())),
+        Some(Request::Discharge) => return fit_ruling(x, idle_ruling(q, mode_ruling(mode))),
     }
 }
 
 // The request that is done: none where it is refused.
-pub fn granted(o: Result<(), Refusal>, r: Request) -> Request
+pub fn granted(o: Result<(), Refusal>, r: Option<Request>) -> Option<Request>
     ensures { result ≡ grant_of o r }
 {
     match o {
         Ok(()) => r,
-        Err(_) => Request::Nothing,
+        Err(_) => None,
     }
 }

@@ -38,7 +38,7 @@ short_case true k fit short e = let z : ◌≡◌ {A = ℕ} 0 1 = cc in absurd (
 short_case false k fit short e = refl
 
 module _ (s : Settings) (st : State) (count : ℤ) (contact : Bool) (receive buffer : List ℕ)
-    (command : Result Order LineFault) (request : Request) (tick : Ticked) (due : Option Reply) (wrote : Wrote) (after : List ℕ)
+    (command : Result Order LineFault) (request : Option Request) (tick : Ticked) (due : Option Reply) (wrote : Wrote) (after : List ℕ)
     (ec : command ≡ command_of receive s.address)
     (er : request ≡ request_of command)
     (et : tick ≡ tick_of s st (record { count = count; contact = contact; request = request }))
@@ -47,7 +47,7 @@ module _ (s : Settings) (st : State) (count : ℤ) (contact : Bool) (receive buf
     (ea : after ≡ written_of (reply_text s.address due) buffer) where
   -- the tick is of the input that the line asks for
   asked : tick ≡ tick_of s st (asked_of s count contact receive)
-  asked = et ∙ ap (λ (r : Request). tick_of s st (record { count = count; contact = contact; request = r })) (er ∙ ap request_of ec)
+  asked = et ∙ ap (λ (r : Option Request). tick_of s st (record { count = count; contact = contact; request = r })) (er ∙ ap request_of ec)
 
   text_due : reply_text s.address due ≡ due_text s st count contact receive
   unfolding due_text tick_of outputs_of

@@ -24,7 +24,7 @@ pub struct Input {
     pub count: i32,
     // the refill contact is closed
     pub contact: bool,
-    pub request: Request,
+    pub request: Option<Request>,
 }
 
 // Step 4: how the request is settled, and the state after it.

@@ -3,7 +3,6 @@ use crate::stages::Setpoints;
 
 #[derive(Clone, Copy)]
 pub enum Request {
-    Nothing,
     Zero,
     Tare,
     TareClear,
