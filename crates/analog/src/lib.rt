@@ -44,19 +44,13 @@ fn clipped(x: f64, d: f64) -> f64
     between(0.0, d, x)
 }
 
-// There is a board. Asked first: without one nothing is worked out.
-fn is_fitted(board: Board) -> bool
-    ensures { result ≡ fitted board }
-{
-    match board {
-        None => false,
-        Board::Current => true,
-        Board::Voltage => true,
-    }
-}
-
 // What the board is given; `fit` is a good tick without overload.
-pub fn analog_value(board: Board, scale: Scale, displayed: i32, fit: bool) -> Analog
+pub fn analog_value(
+    board: Option<Board>,
+    scale: Scale,
+    displayed: i32,
+    fit: bool,
+) -> Option<Analog>
     ensures value { result ≡ analog_of board scale displayed fit }
     ensures number { analog_number result ≡ analog_due board fit }
     ensures values { analog_values result ≡ analog_values_due board scale displayed fit }
@@ -64,15 +58,13 @@ pub fn analog_value(board: Board, scale: Scale, displayed: i32, fit: bool) -> An
     if !fit {
         return None;
     }
-    if !is_fitted(board) {
-        return None;
-    }
+    // Without a board nothing is worked out.
+    let board = board?;
     let w = displayed as f64;
     let d = scale.span;
     let x = clipped(w - scale.low, d);
     match board {
-        None => None,
-        Board::Current => Analog::Current(16.0 * x / d + 4.0),
-        Board::Voltage => Analog::Voltage(10.0 * x / d + 0.0),
+        Board::Current => Some(Analog::Current(16.0 * x / d + 4.0)),
+        Board::Voltage => Some(Analog::Voltage(10.0 * x / d + 0.0)),
     }
 }

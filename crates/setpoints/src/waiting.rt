@@ -8,27 +8,19 @@ use types::stages::Setpoints;
 pub fn none_waiting() -> Option<Setpoints>
     ensures { result ≡ none_waiting }
 {
-    Waiting {
-        write: None,
-    }
+    None
 }
 
 // A write replaces what waited before it.
 pub fn waiting_for(p: Setpoints) -> Option<Setpoints>
     ensures { result ≡ waiting_for p }
 {
-    Waiting {
-        write: Some(p),
-    }
+    Some(p)
 }
 
 // The set that was written last: the waiting one if there is one, else the one in use. RS reads it, and it is in use once the stage is 00.
 pub fn latest(p: Setpoints, w: Option<Setpoints>) -> Setpoints
     ensures { result ≡ latest_of p w }
 {
-    let write = w.write;
-    match write {
-        None => return p,
-        Some(n) => return n,
-    }
+    w.unwrap_or(p)
 }

@@ -16,14 +16,14 @@ pub fn mode_of(m: i32) -> Mode
     if m == 1 { Mode::Normal } else { Mode::Loss }
 }
 
-fn board_of(b: i32) -> Board
+fn board_of(b: i32) -> Option<Board>
     ensures { result ≡ board_of b }
 {
     if b == 1 {
-        return Board::Current;
+        return Some(Board::Current);
     }
     if b == 2 {
-        return Board::Voltage;
+        return Some(Board::Voltage);
     }
     None
 }

@@ -20,17 +20,17 @@ enum_known-raw c = search rules
 good_tick-requires : tie.Need-good_tick-requires
 good_tick-requires c κs = search rules
 
-returns-in-Bad : tie.Need-returns-in-Bad
+returns-in-None : tie.Need-returns-in-None
 unfolding book_of
-returns-in-Bad c = simp (c.counted-ticks.ensures, c.in-Bad.is)
+returns-in-None c = simp (c.counted-ticks.ensures, c.in-None.is)
 
-returns-in-Tenths : tie.Need-returns-in-Tenths
-returns-in-Tenths c =
+returns-in-Some : tie.Need-returns-in-Some
+returns-in-Some c =
     let g = c.before in
-    let f : SFits w32 g.in-Tenths.t = search sfits_of in
-    simp (c.good_tick.ensures, to_z-of_z f, g.in-Tenths.is)
+    let f : SFits w32 g.in-Some.t = search sfits_of in
+    simp (c.good_tick.ensures, to_z-of_z f, g.in-Some.is)
 
 pub book_tick_spec : {M : Type 1} → statement M
 book_tick_spec =
     tie.close
-    (tie.spec enum_told-1 counted-ticks-requires enum_known-raw good_tick-requires returns-in-Bad returns-in-Tenths)
+    (tie.spec enum_told-1 counted-ticks-requires enum_known-raw good_tick-requires returns-in-None returns-in-Some)

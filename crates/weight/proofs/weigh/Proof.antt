@@ -20,17 +20,17 @@ enum_known-raw c = search rules
 weigh_good-requires : tie.Need-weigh_good-requires
 weigh_good-requires c κs = search rules
 
-returns-in-Bad : tie.Need-returns-in-Bad
+returns-in-None : tie.Need-returns-in-None
 unfolding weigh_of
-returns-in-Bad c = simp (c.in-Bad.is, c.is_stable-stable.ensures)
+returns-in-None c = simp (c.in-None.is, c.is_stable-stable.ensures)
 
-returns-in-Tenths : tie.Need-returns-in-Tenths
-returns-in-Tenths c =
+returns-in-Some : tie.Need-returns-in-Some
+returns-in-Some c =
     let g = c.before in
-    let f : SFits w32 g.in-Tenths.t = search sfits_of in
-    simp (c.weigh_good.ensures, to_z-of_z f, g.in-Tenths.is)
+    let f : SFits w32 g.in-Some.t = search sfits_of in
+    simp (c.weigh_good.ensures, to_z-of_z f, g.in-Some.is)
 
 pub weigh_spec : {M : Type 1} → statement M
 weigh_spec =
     tie.close
-    (tie.spec enum_told-1 is_stable-stable-requires enum_known-raw weigh_good-requires returns-in-Bad returns-in-Tenths)
+    (tie.spec enum_told-1 is_stable-stable-requires enum_known-raw weigh_good-requires returns-in-None returns-in-Some)

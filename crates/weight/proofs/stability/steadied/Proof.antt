@@ -17,17 +17,17 @@ enum_known-raw c = search rules
 run_after-requires : tie.Need-run_after-requires
 run_after-requires c κs = search rules
 
-returns-in-Bad : tie.Need-returns-in-Bad
+returns-in-None : tie.Need-returns-in-None
 unfolding steadied_of
-returns-in-Bad c = simp c.in-Bad.is
+returns-in-None c = simp c.in-None.is
 
-returns-in-Tenths : tie.Need-returns-in-Tenths
+returns-in-Some : tie.Need-returns-in-Some
 unfolding steadied_of
-returns-in-Tenths c =
+returns-in-Some c =
     let g = c.before in
-    let f : SFits w32 g.in-Tenths.t = search sfits_of in
-    simp (c.run_after.ensures, to_z-of_z g.ranges.last, to_z-of_z f, g.in-Tenths.is)
+    let f : SFits w32 g.in-Some.t = search sfits_of in
+    simp (c.run_after.ensures, to_z-of_z g.ranges.last, to_z-of_z f, g.in-Some.is)
 
 pub steadied_spec : {M : Type 1} → statement M
 steadied_spec =
-    tie.close (tie.spec enum_told-1 enum_known-raw run_after-requires returns-in-Bad returns-in-Tenths)
+    tie.close (tie.spec enum_told-1 enum_known-raw run_after-requires returns-in-None returns-in-Some)
