@@ -11,21 +11,10 @@ use types::stages::{Advanced, Sequence, SequenceError, Setpoints, Stage};
 pub(crate) fn is_discharging(stage: Stage) -> bool
     ensures { result ≡ discharging_of stage }
 {
-    match stage {
-        Stage::Idle => false,
-        Stage::StartDelay(_) => false,
-        Stage::LargeDisable(_) => false,
-        Stage::LargeFlow => false,
-        Stage::MediumDisable(_) => false,
-        Stage::MediumFlow => false,
-        Stage::SmallDisable(_) => false,
-        Stage::SmallFlow => false,
-        Stage::JudgeDelay(_) => false,
-        Stage::JudgeWait => false,
-        Stage::DischargeStart(_) => true,
-        Stage::Discharge => true,
-        Stage::DischargeEnd(_) => true,
-    }
+    matches!(
+        stage,
+        Stage::DischargeStart(_) | Stage::Discharge | Stage::DischargeEnd(_)
+    )
 }
 
 // 14, the start delay, in which no clock runs; then 15 and 16. No stage of a discharge asks for v or stability.

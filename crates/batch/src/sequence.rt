@@ -37,13 +37,11 @@ pub fn start_sequence() -> Sequence
 pub fn discharge_sequence(q: Sequence) -> Sequence
     ensures { result ≡ discharge_sequence q }
 {
-    let error = None;
-    let kept = q.judgement;
     Sequence {
         stage: Stage::DischargeStart(0),
         clock: 0,
-        error,
-        judgement: kept,
+        error: None,
+        judgement: q.judgement,
     }
 }
 
@@ -51,33 +49,18 @@ pub fn discharge_sequence(q: Sequence) -> Sequence
 pub fn is_idle(stage: Stage) -> bool
     ensures { result ≡ idle_of stage }
 {
-    match stage {
-        Stage::Idle => true,
-        Stage::StartDelay(_) => false,
-        Stage::LargeDisable(_) => false,
-        Stage::LargeFlow => false,
-        Stage::MediumDisable(_) => false,
-        Stage::MediumFlow => false,
-        Stage::SmallDisable(_) => false,
-        Stage::SmallFlow => false,
-        Stage::JudgeDelay(_) => false,
-        Stage::JudgeWait => false,
-        Stage::DischargeStart(_) => false,
-        Stage::Discharge => false,
-        Stage::DischargeEnd(_) => false,
-    }
+    matches!(stage, Stage::Idle)
 }
 
 // An error: to 00.
 pub(crate) fn failed(q: Sequence, e: SequenceError) -> Sequence
     ensures { result ≡ failed_of q e }
 {
-    let judgement = q.judgement;
     Sequence {
         stage: Stage::Idle,
         clock: 0,
-        error: e,
-        judgement,
+        error: Some(e),
+        judgement: q.judgement,
     }
 }
 
@@ -95,9 +78,8 @@ fn stop_error(stage: Stage) -> SequenceError
 pub fn stop_sequence(q: Sequence) -> Sequence
     ensures { result ≡ stop_sequence q }
 {
-    let stage = q.stage;
-    if is_idle(stage) {
+    if is_idle(q.stage) {
         return q;
     }
-    failed(q, stop_error(stage))
+    failed(q, stop_error(q.stage))
 }

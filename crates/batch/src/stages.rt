@@ -24,14 +24,12 @@ pub(crate) fn fail(q: Sequence, e: SequenceError) -> Advanced
 pub(crate) fn to(q: Sequence, clock: u16, stage: Stage) -> Advanced
     ensures { result ≡ (record { sequence = record { stage = stage; clock = clock; error = q.error; judgement = q.judgement }; finished = false }) }
 {
-    let error = q.error;
-    let judgement = q.judgement;
     Advanced {
         sequence: Sequence {
             stage,
             clock,
-            error,
-            judgement,
+            error: q.error,
+            judgement: q.judgement,
         },
         finished: false,
     }
@@ -39,15 +37,14 @@ pub(crate) fn to(q: Sequence, clock: u16, stage: Stage) -> Advanced
 
 // A batch finishes.
 fn finish(q: Sequence, judgement: Judgement) -> Advanced
-    ensures { result ≡ (record { sequence = record { stage = Stage.Idle; clock = 0; error = q.error; judgement = judgement }; finished = true }) }
+    ensures { result ≡ (record { sequence = record { stage = Stage.Idle; clock = 0; error = q.error; judgement = Some judgement }; finished = true }) }
 {
-    let error = q.error;
     Advanced {
         sequence: Sequence {
             stage: Stage::Idle,
             clock: 0,
-            error,
-            judgement,
+            error: q.error,
+            judgement: Some(judgement),
         },
         finished: true,
     }
@@ -61,11 +58,7 @@ pub(crate) fn wait(n: u16, t: u16) -> Option<u16>
         return None;
     }
     let next = t + 1;
-    if n <= next {
-        None
-    } else {
-        Some(next)
-    }
+    if n <= next { None } else { Some(next) }
 }
 
 // 06, or 08 if P is 0.

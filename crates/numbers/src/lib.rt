@@ -81,41 +81,41 @@ pub fn stage_number(stage: Stage) -> u8
     }
 }
 
-pub fn error_number(e: SequenceError) -> u8
+pub fn error_number(e: Option<SequenceError>) -> u8
     ensures { result ≡ error_number e }
 {
     match e {
         None => 0,
-        SequenceError::NoFinal => 1,
-        SequenceError::Reached => 2,
-        SequenceError::Stopped => 4,
-        SequenceError::FlowTime => 6,
-        SequenceError::BadWeight => 9,
-        SequenceError::NotBooked => 10,
-        SequenceError::DischargeStopped => 7,
-        SequenceError::DischargeTime => 8,
+        Some(SequenceError::NoFinal) => 1,
+        Some(SequenceError::Reached) => 2,
+        Some(SequenceError::Stopped) => 4,
+        Some(SequenceError::FlowTime) => 6,
+        Some(SequenceError::BadWeight) => 9,
+        Some(SequenceError::NotBooked) => 10,
+        Some(SequenceError::DischargeStopped) => 7,
+        Some(SequenceError::DischargeTime) => 8,
     }
 }
 
 // The numbers of a judgement are the house's.
-pub fn judgement_number(j: Judgement) -> u8
+pub fn judgement_number(j: Option<Judgement>) -> u8
     ensures { result ≡ judgement_number j }
 {
     match j {
         None => 0,
-        Judgement::Ok => 1,
-        Judgement::Over => 2,
-        Judgement::Under => 3,
+        Some(Judgement::Ok) => 1,
+        Some(Judgement::Over) => 2,
+        Some(Judgement::Under) => 3,
     }
 }
 
 // So are those of a kind of analog value, the settings' own for the board.
-pub fn analog_number(a: Analog) -> u8
+pub fn analog_number(a: Option<Analog>) -> u8
     ensures { result ≡ analog_number a }
 {
     match a {
         None => 0,
-        Analog::Current(_) => 1,
-        Analog::Voltage(_) => 2,
+        Some(Analog::Current(_)) => 1,
+        Some(Analog::Voltage(_)) => 2,
     }
 }

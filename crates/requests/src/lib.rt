@@ -11,85 +11,83 @@ use types::settings::{Mode, Range};
 use types::stages::{Sequence, Setpoints, Totals};
 use types::weight::Weights;
 
-// Row 1; `after` is what the rows after it say.
-fn good_ruling(x: Weights, after: Result<(), Refusal>) -> Result<(), Refusal>
-    ensures { result ≡ cond (row1 x).applies (Err (row1 x).number) after }
+// Row 1.
+fn is_good(x: Weights) -> Result<(), Refusal>
+    ensures { result ≡ first_of (row1 x ∷ []) }
 {
     if x.good {
-        return after;
+        Ok(())
+    } else {
+        Err(Refusal::BadTick)
     }
-    Err(Refusal::BadTick)
 }
 
 // Rows 1 and 2.
-fn fit_ruling(x: Weights, rest: Result<(), Refusal>) -> Result<(), Refusal>
-    ensures { result ≡ cond (row1 x).applies (Err (row1 x).number) (cond (row2 x).applies (Err (row2 x).number) rest) }
+fn is_fit(x: Weights) -> Result<(), Refusal>
+    ensures { result ≡ first_of (row1 x ∷ row2 x ∷ []) }
 {
-    if !x.good {
-        return Err(Refusal::BadTick);
-    }
+    is_good(x)?;
     if x.overload {
-        return Err(Refusal::Overload);
+        Err(Refusal::Overload)
+    } else {
+        Ok(())
     }
-    rest
 }
 
 // Row 3.
-fn idle_ruling(q: Sequence, rest: Result<(), Refusal>) -> Result<(), Refusal>
-    ensures { result ≡ cond (row3 q).applies (Err (row3 q).number) rest }
+fn is_idle(q: Sequence) -> Result<(), Refusal>
+    ensures { result ≡ first_of (row3 q ∷ []) }
 {
-    let stage = q.stage;
-    if batch::sequence::is_idle(stage) {
-        return rest;
+    if batch::sequence::is_idle(q.stage) {
+        Ok(())
+    } else {
+        Err(Refusal::NotIdle)
     }
-    Err(Refusal::NotIdle)
 }
 
 // Rows 3, 8, 4 and 5, of zero and tare. `barred` is the test of row 8, which is to zero only; `inside` is the test of the request's own
 // rule.
-fn still_ruling(q: Sequence, x: Weights, barred: bool, inside: bool) -> Result<(), Refusal>
+fn is_still(q: Sequence, x: Weights, barred: bool, inside: bool) -> Result<(), Refusal>
     ensures { result ≡ first_of (row3 q ∷ row8 barred ∷ row4 x ∷ row5 inside ∷ []) }
 {
-    let stage = q.stage;
-    let idle = batch::sequence::is_idle(stage);
-    let stable = x.stable;
-    if !idle {
-        return Err(Refusal::NotIdle);
-    }
+    is_idle(q)?;
     if barred {
         return Err(Refusal::ContactClosed);
     }
-    if !stable {
+    if !x.stable {
         return Err(Refusal::Unstable);
     }
     if inside {
-        return Ok(());
+        Ok(())
+    } else {
+        Err(Refusal::OutsideRules)
     }
-    Err(Refusal::OutsideRules)
 }
 
 // Row 6.
-fn set_ruling(mode: Mode, p: Setpoints) -> Result<(), Refusal>
+fn keeps_rules(mode: Mode, p: Setpoints) -> Result<(), Refusal>
     ensures { result ≡ first_of (row6 (setpoints_fit mode p) ∷ []) }
 {
     if setpoints::setpoints_fit(mode, p) {
-        return Ok(());
+        Ok(())
+    } else {
+        Err(Refusal::SetpointRules)
     }
-    Err(Refusal::SetpointRules)
 }
 
 // Row 7.
-fn undo_ruling(t: Totals) -> Result<(), Refusal>
+fn has_back(t: Totals) -> Result<(), Refusal>
     ensures { result ≡ first_of (row7 t ∷ []) }
 {
     if totals::has_none_back(t) {
-        return Err(Refusal::NothingToTakeBack);
+        Err(Refusal::NothingToTakeBack)
+    } else {
+        Ok(())
     }
-    Ok(())
 }
 
 // Row 9.
-fn mode_ruling(mode: Mode) -> Result<(), Refusal>
+fn is_batching(mode: Mode) -> Result<(), Refusal>
     ensures { result ≡ first_of (row9 mode ∷ []) }
 {
     match mode {
@@ -99,29 +97,45 @@ fn mode_ruling(mode: Mode) -> Result<(), Refusal>
 }
 
 // The table, turned: the rows that each request can meet, in the order in which they are tested, and the first that applies.
-pub fn ruling(range: Range, mode: Mode, q: Sequence, t: Totals, x: Weights, r: Option<Request>) -> Result<(), Refusal>
+pub fn ruling(
+    range: Range,
+    mode: Mode,
+    q: Sequence,
+    t: Totals,
+    x: Weights,
+    r: Option<Request>,
+) -> Result<(), Refusal>
     ensures { result ≡ first_of (rows_to range mode q t x r) }
 {
-    match r {
-        None => return Ok(()),
-        Some(Request::Zero) => {
-            let inside = zero::in_zero_range(range, x.raw);
-            return fit_ruling(x, still_ruling(q, x, x.contact, inside));
+    let Some(request) = r else {
+        return Ok(());
+    };
+    match request {
+        Request::Zero => {
+            is_fit(x)?;
+            is_still(q, x, x.contact, zero::in_zero_range(range, x.raw))
         }
-        Some(Request::Tare) => {
-            let inside = zero::in_tare_range(range, x.divisions);
-            return fit_ruling(x, still_ruling(q, x, false, inside));
+        Request::Tare => {
+            is_fit(x)?;
+            is_still(q, x, false, zero::in_tare_range(range, x.divisions))
         }
-        Some(Request::TareClear) => return idle_ruling(q, Ok(())),
-        Some(Request::Start) => return fit_ruling(x, idle_ruling(q, Ok(()))),
-        Some(Request::Stop) => return Ok(()),
-        Some(Request::Set(p)) => return set_ruling(mode, p),
-        Some(Request::TotalClear) => return Ok(()),
-        Some(Request::Undo) => return undo_ruling(t),
-        Some(Request::ShowGross) => return Ok(()),
-        Some(Request::ShowNet) => return Ok(()),
-        Some(Request::DayClose) => return good_ruling(x, Ok(())),
-        Some(Request::Discharge) => return fit_ruling(x, idle_ruling(q, mode_ruling(mode))),
+        Request::TareClear => is_idle(q),
+        Request::Start => {
+            is_fit(x)?;
+            is_idle(q)
+        }
+        Request::Stop => Ok(()),
+        Request::Set(p) => keeps_rules(mode, p),
+        Request::TotalClear => Ok(()),
+        Request::Undo => has_back(t),
+        Request::ShowGross => Ok(()),
+        Request::ShowNet => Ok(()),
+        Request::DayClose => is_good(x),
+        Request::Discharge => {
+            is_fit(x)?;
+            is_idle(q)?;
+            is_batching(mode)
+        }
     }
 }
 
@@ -129,8 +143,5 @@ pub fn ruling(range: Range, mode: Mode, q: Sequence, t: Totals, x: Weights, r: O
 pub fn granted(o: Result<(), Refusal>, r: Option<Request>) -> Option<Request>
     ensures { result ≡ grant_of o r }
 {
-    match o {
-        Ok(()) => r,
-        Err(_) => None,
-    }
+    if o.is_ok() { r } else { None }
 }

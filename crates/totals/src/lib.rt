@@ -62,13 +62,11 @@ pub fn booked_sequence(t: Totals, v: i64, q: Sequence) -> Sequence
     if is_bookable(t, v) {
         return q;
     }
-    let stage = q.stage;
-    let judgement = q.judgement;
     Sequence {
-        stage,
+        stage: q.stage,
         clock: q.clock,
-        error: SequenceError::NotBooked,
-        judgement,
+        error: Some(SequenceError::NotBooked),
+        judgement: q.judgement,
     }
 }
 
@@ -76,34 +74,19 @@ pub fn booked_sequence(t: Totals, v: i64, q: Sequence) -> Sequence
 pub fn has_none_back(t: Totals) -> bool
     ensures { result ≡ none_back t.back }
 {
-    let back = t.back;
-    match back {
-        None => true,
-        Some(_) => false,
-    }
+    t.back.is_none()
 }
 
 // Undo: the last booked batch is taken back, once. The differences stop at 0.
 pub fn take_back(t: Totals) -> Totals
     ensures { result ≡ taken_back t }
 {
-    let back = t.back;
-    match back {
+    match t.back {
         None => t,
         Some(v) => Totals {
-            total: less(t.total, v),
-            count: less(t.count as u64, 1) as u32,
+            total: t.total.saturating_sub(v),
+            count: t.count.saturating_sub(1),
             back: None,
         },
     }
-}
-
-// a - b, and 0 where b is more
-fn less(a: u64, b: u64) -> u64
-    ensures { result ≡ a - b }
-{
-    if a < b {
-        return 0;
-    }
-    a - b
 }

@@ -25,25 +25,25 @@ enum_known-u c = search rules
 to-requires : tie.Need-to-requires
 to-requires c κs = search rules
 
-returns-in-Still : tie.Need-returns-in-Still
+returns-in-Some : tie.Need-returns-in-Some
 unfolding move_of
-returns-in-Still c = λ s v.
+returns-in-Some c = λ s v.
     let w = c.before.before in
     let g = w.in-DischargeStart.is in
-    c.to.ensures ∙ delay_to _ _ _ _ refl _ g refl refl refl _ (simp (sym w.wait.ensures ∙ c.in-Still.is))
+    c.to.ensures ∙ delay_to _ _ _ _ refl _ g refl refl refl _ (simp (sym w.wait.ensures ∙ c.in-Some.is))
 
 enum_told-1 : tie.Need-enum_told-1
 enum_told-1 c = search rules
 
-to-requires-in-Over : tie.Need-to-requires-in-Over
-to-requires-in-Over c κs = search rules
+to-requires-in-None : tie.Need-to-requires-in-None
+to-requires-in-None c κs = search rules
 
-returns-in-Over : tie.Need-returns-in-Over
+returns-in-None : tie.Need-returns-in-None
 unfolding move_of
-returns-in-Over c = λ s v.
+returns-in-None c = λ s v.
     let w = c.before.before in
     let g = w.in-DischargeStart.is in
-    c.to-in-Over.ensures ∙ delay_to _ _ _ _ refl _ g refl refl refl _ (simp (sym w.wait.ensures ∙ c.in-Over.is))
+    c.to-in-None.ensures ∙ delay_to _ _ _ _ refl _ g refl refl refl _ (simp (sym w.wait.ensures ∙ c.in-None.is))
 
 pub discharged_spec : {M : Type 1} → statement M
 discharged_spec =
@@ -55,7 +55,7 @@ discharged_spec =
     wait-requires
     enum_known-u
     to-requires
-    returns-in-Still
+    returns-in-Some
     enum_told-1
-    to-requires-in-Over
-    returns-in-Over)
+    to-requires-in-None
+    returns-in-None)

@@ -69,29 +69,29 @@ wait-requires c κs = search rules
 enum_known-u : tie.Need-enum_known-u
 enum_known-u c = search rules
 
-to-requires-in-Still : tie.Need-to-requires-in-Still
-to-requires-in-Still c κs = search rules
+to-requires-in-Some : tie.Need-to-requires-in-Some
+to-requires-in-Some c κs = search rules
 
-returns-in-Still : tie.Need-returns-in-Still
+returns-in-Some : tie.Need-returns-in-Some
 unfolding move_of
-returns-in-Still c = λ s v.
+returns-in-Some c = λ s v.
     let w = c.before.before in
     let g = w.before in
-    c.to-in-Still.ensures ∙ moves g.before s v _ (simp (sym w.wait.ensures ∙ c.in-Still.is, g.in-DischargeEnd.is))
+    c.to-in-Some.ensures ∙ moves g.before s v _ (simp (sym w.wait.ensures ∙ c.in-Some.is, g.in-DischargeEnd.is))
 
 enum_told-1 : tie.Need-enum_told-1
 enum_told-1 c = search rules
 
-to-requires-in-Over : tie.Need-to-requires-in-Over
-to-requires-in-Over c κs = search rules
+to-requires-in-None : tie.Need-to-requires-in-None
+to-requires-in-None c κs = search rules
 
-returns-in-Over : tie.Need-returns-in-Over
+returns-in-None : tie.Need-returns-in-None
 unfolding move_of
-returns-in-Over c = λ s v.
+returns-in-None c = λ s v.
     let w = c.before.before in
     let g = w.before in
     let k = g.before in
-    c.to-in-Over.ensures ∙ empty-over _ _ _ _ refl (start k).requires k.if-b-q.false (simp (sym w.wait.ensures ∙ c.in-Over.is, g.in-DischargeEnd.is))
+    c.to-in-None.ensures ∙ empty-over _ _ _ _ refl (start k).requires k.if-b-q.false (simp (sym w.wait.ensures ∙ c.in-None.is, g.in-DischargeEnd.is))
 
 pub emptied_spec : {M : Type 1} → statement M
 emptied_spec =
@@ -108,8 +108,8 @@ emptied_spec =
     returns-in_default
     wait-requires
     enum_known-u
-    to-requires-in-Still
-    returns-in-Still
+    to-requires-in-Some
+    returns-in-Some
     enum_told-1
-    to-requires-in-Over
-    returns-in-Over)
+    to-requires-in-None
+    returns-in-None)

@@ -25,12 +25,12 @@ enum_known-u c = search rules
 to-requires : tie.Need-to-requires
 to-requires c κs = search rules
 
-returns-in-Still : tie.Need-returns-in-Still
+returns-in-Some : tie.Need-returns-in-Some
 unfolding move_of
-returns-in-Still c = λ x.
+returns-in-Some c = λ x.
     let w = c.before.before in
     let g = w.in-StartDelay.is in
-    c.to.ensures ∙ delay_to _ _ _ _ refl _ g refl refl refl _ (simp (sym w.wait.ensures ∙ c.in-Still.is))
+    c.to.ensures ∙ delay_to _ _ _ _ refl _ g refl refl refl _ (simp (sym w.wait.ensures ∙ c.in-Some.is))
 
 enum_told-1 : tie.Need-enum_told-1
 enum_told-1 c = search rules
@@ -38,13 +38,13 @@ enum_told-1 c = search rules
 after_start-requires : tie.Need-after_start-requires
 after_start-requires c κs = simp c.in-StartDelay.is
 
-returns-in-Over : tie.Need-returns-in-Over
-returns-in-Over c = λ x.
+returns-in-None : tie.Need-returns-in-None
+returns-in-None c = λ x.
     let w = c.before.before in
     let g = w.in-StartDelay.is in
     let a = w.before.before in
     let e = simp (to_z-of_z a.ranges.v) at (c.after_start.ensures a.args.stable x) in
-    start_over _ _ _ _ refl _ g (sym w.wait.ensures ∙ c.in-Over.is) _ e
+    start_over _ _ _ _ refl _ g (sym w.wait.ensures ∙ c.in-None.is) _ e
 
 pub batched_spec : {M : Type 1} → statement M
 batched_spec =
@@ -56,7 +56,7 @@ batched_spec =
     wait-requires
     enum_known-u
     to-requires
-    returns-in-Still
+    returns-in-Some
     enum_told-1
     after_start-requires
-    returns-in-Over)
+    returns-in-None)

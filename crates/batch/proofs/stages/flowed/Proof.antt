@@ -47,19 +47,19 @@ enum_known-u c = search rules
 to-requires : tie.Need-to-requires
 to-requires c κs = search rules
 
-returns-in-Still : tie.Need-returns-in-Still
+returns-in-Some : tie.Need-returns-in-Some
 unfolding move_of
-returns-in-Still c = λ x. c.to.ensures ∙ moves c.before.before.before.before x _ (simp (sym c.wait.ensures ∙ c.in-Still.is, c.in-LargeDisable.is))
+returns-in-Some c = λ x. c.to.ensures ∙ moves c.before.before.before.before x _ (simp (sym c.wait.ensures ∙ c.in-Some.is, c.in-LargeDisable.is))
 
 enum_told-1 : tie.Need-enum_told-1
 enum_told-1 c = search rules
 
-to-requires-in-Over : tie.Need-to-requires-in-Over
-to-requires-in-Over c κs = search rules
+to-requires-in-None : tie.Need-to-requires-in-None
+to-requires-in-None c κs = search rules
 
-returns-in-Over : tie.Need-returns-in-Over
+returns-in-None : tie.Need-returns-in-None
 unfolding move_of
-returns-in-Over c = λ x. c.to-in-Over.ensures ∙ moves c.before.before.before.before x _ (simp (sym c.wait.ensures ∙ c.in-Over.is, c.in-LargeDisable.is))
+returns-in-None c = λ x. c.to-in-None.ensures ∙ moves c.before.before.before.before x _ (simp (sym c.wait.ensures ∙ c.in-None.is, c.in-LargeDisable.is))
 
 enum_told-in-LargeFlow : tie.Need-enum_told-in-LargeFlow
 enum_told-in-LargeFlow c = search rules
@@ -96,25 +96,25 @@ enum_known-stage-in-MediumDisable-1 c = search rules
 wait-requires-in-MediumDisable : tie.Need-wait-requires-in-MediumDisable
 wait-requires-in-MediumDisable c κs = search rules
 
-enum_known-u-in-Still-wait-2 : tie.Need-enum_known-u-in-Still-wait-2
-enum_known-u-in-Still-wait-2 c = search rules
+enum_known-u-in-Some-wait-2 : tie.Need-enum_known-u-in-Some-wait-2
+enum_known-u-in-Some-wait-2 c = search rules
 
-to-requires-in-Still-wait : tie.Need-to-requires-in-Still-wait
-to-requires-in-Still-wait c κs = search rules
+to-requires-in-Some-wait : tie.Need-to-requires-in-Some-wait
+to-requires-in-Some-wait c κs = search rules
 
-returns-in-Still-wait : tie.Need-returns-in-Still-wait
+returns-in-Some-wait : tie.Need-returns-in-Some-wait
 unfolding move_of
-returns-in-Still-wait c = λ x. c.to-in-Still-wait.ensures ∙ moves c.before.before.before.before x _ (simp (sym c.wait-in-MediumDisable.ensures ∙ c.in-Still-wait.is, c.in-MediumDisable.is))
+returns-in-Some-wait c = λ x. c.to-in-Some-wait.ensures ∙ moves c.before.before.before.before x _ (simp (sym c.wait-in-MediumDisable.ensures ∙ c.in-Some-wait.is, c.in-MediumDisable.is))
 
-enum_told-in-Over-wait : tie.Need-enum_told-in-Over-wait
-enum_told-in-Over-wait c = search rules
+enum_told-in-None-wait : tie.Need-enum_told-in-None-wait
+enum_told-in-None-wait c = search rules
 
-to-requires-in-Over-wait : tie.Need-to-requires-in-Over-wait
-to-requires-in-Over-wait c κs = search rules
+to-requires-in-None-wait : tie.Need-to-requires-in-None-wait
+to-requires-in-None-wait c κs = search rules
 
-returns-in-Over-wait : tie.Need-returns-in-Over-wait
+returns-in-None-wait : tie.Need-returns-in-None-wait
 unfolding move_of
-returns-in-Over-wait c = λ x. c.to-in-Over-wait.ensures ∙ moves c.before.before.before.before x _ (simp (sym c.wait-in-MediumDisable.ensures ∙ c.in-Over-wait.is, c.in-MediumDisable.is))
+returns-in-None-wait c = λ x. c.to-in-None-wait.ensures ∙ moves c.before.before.before.before x _ (simp (sym c.wait-in-MediumDisable.ensures ∙ c.in-None-wait.is, c.in-MediumDisable.is))
 
 enum_told-in-MediumFlow : tie.Need-enum_told-in-MediumFlow
 enum_told-in-MediumFlow c = search rules
@@ -148,25 +148,25 @@ enum_known-stage-in-SmallDisable-1 c = search rules
 wait-requires-in-SmallDisable : tie.Need-wait-requires-in-SmallDisable
 wait-requires-in-SmallDisable c κs = search rules
 
-enum_known-u-in-Still-wait-3 : tie.Need-enum_known-u-in-Still-wait-3
-enum_known-u-in-Still-wait-3 c = search rules
+enum_known-u-in-Some-wait-3 : tie.Need-enum_known-u-in-Some-wait-3
+enum_known-u-in-Some-wait-3 c = search rules
 
-to-requires-in-Still-wait-2 : tie.Need-to-requires-in-Still-wait-2
-to-requires-in-Still-wait-2 c κs = search rules
+to-requires-in-Some-wait-2 : tie.Need-to-requires-in-Some-wait-2
+to-requires-in-Some-wait-2 c κs = search rules
 
-returns-in-Still-wait-2 : tie.Need-returns-in-Still-wait-2
+returns-in-Some-wait-2 : tie.Need-returns-in-Some-wait-2
 unfolding move_of
-returns-in-Still-wait-2 c = λ x. c.to-in-Still-wait-2.ensures ∙ moves c.before.before.before.before x _ (simp (sym c.wait-in-SmallDisable.ensures ∙ c.in-Still-wait-2.is, c.in-SmallDisable.is))
+returns-in-Some-wait-2 c = λ x. c.to-in-Some-wait-2.ensures ∙ moves c.before.before.before.before x _ (simp (sym c.wait-in-SmallDisable.ensures ∙ c.in-Some-wait-2.is, c.in-SmallDisable.is))
 
-enum_told-in-Over-wait-2 : tie.Need-enum_told-in-Over-wait-2
-enum_told-in-Over-wait-2 c = search rules
+enum_told-in-None-wait-2 : tie.Need-enum_told-in-None-wait-2
+enum_told-in-None-wait-2 c = search rules
 
-to-requires-in-Over-wait-2 : tie.Need-to-requires-in-Over-wait-2
-to-requires-in-Over-wait-2 c κs = search rules
+to-requires-in-None-wait-2 : tie.Need-to-requires-in-None-wait-2
+to-requires-in-None-wait-2 c κs = search rules
 
-returns-in-Over-wait-2 : tie.Need-returns-in-Over-wait-2
+returns-in-None-wait-2 : tie.Need-returns-in-None-wait-2
 unfolding move_of
-returns-in-Over-wait-2 c = λ x. c.to-in-Over-wait-2.ensures ∙ moves c.before.before.before.before x _ (simp (sym c.wait-in-SmallDisable.ensures ∙ c.in-Over-wait-2.is, c.in-SmallDisable.is))
+returns-in-None-wait-2 c = λ x. c.to-in-None-wait-2.ensures ∙ moves c.before.before.before.before x _ (simp (sym c.wait-in-SmallDisable.ensures ∙ c.in-None-wait-2.is, c.in-SmallDisable.is))
 
 enum_told-in-SmallFlow : tie.Need-enum_told-in-SmallFlow
 enum_told-in-SmallFlow c = search rules
@@ -200,25 +200,25 @@ enum_known-stage-in-JudgeDelay-1 c = search rules
 wait-requires-in-JudgeDelay : tie.Need-wait-requires-in-JudgeDelay
 wait-requires-in-JudgeDelay c κs = search rules
 
-enum_known-u-in-Still-wait-4 : tie.Need-enum_known-u-in-Still-wait-4
-enum_known-u-in-Still-wait-4 c = search rules
+enum_known-u-in-Some-wait-4 : tie.Need-enum_known-u-in-Some-wait-4
+enum_known-u-in-Some-wait-4 c = search rules
 
-to-requires-in-Still-wait-3 : tie.Need-to-requires-in-Still-wait-3
-to-requires-in-Still-wait-3 c κs = search rules
+to-requires-in-Some-wait-3 : tie.Need-to-requires-in-Some-wait-3
+to-requires-in-Some-wait-3 c κs = search rules
 
-returns-in-Still-wait-3 : tie.Need-returns-in-Still-wait-3
+returns-in-Some-wait-3 : tie.Need-returns-in-Some-wait-3
 unfolding move_of
-returns-in-Still-wait-3 c = λ x. c.to-in-Still-wait-3.ensures ∙ moves c.before.before.before.before x _ (simp (sym c.wait-in-JudgeDelay.ensures ∙ c.in-Still-wait-3.is, c.in-JudgeDelay.is))
+returns-in-Some-wait-3 c = λ x. c.to-in-Some-wait-3.ensures ∙ moves c.before.before.before.before x _ (simp (sym c.wait-in-JudgeDelay.ensures ∙ c.in-Some-wait-3.is, c.in-JudgeDelay.is))
 
-enum_told-in-Over-wait-3 : tie.Need-enum_told-in-Over-wait-3
-enum_told-in-Over-wait-3 c = search rules
+enum_told-in-None-wait-3 : tie.Need-enum_told-in-None-wait-3
+enum_told-in-None-wait-3 c = search rules
 
-to-requires-in-Over-wait-3 : tie.Need-to-requires-in-Over-wait-3
-to-requires-in-Over-wait-3 c κs = search rules
+to-requires-in-None-wait-3 : tie.Need-to-requires-in-None-wait-3
+to-requires-in-None-wait-3 c κs = search rules
 
-returns-in-Over-wait-3 : tie.Need-returns-in-Over-wait-3
+returns-in-None-wait-3 : tie.Need-returns-in-None-wait-3
 unfolding move_of
-returns-in-Over-wait-3 c = λ x. c.to-in-Over-wait-3.ensures ∙ moves c.before.before.before.before x _ (simp (sym c.wait-in-JudgeDelay.ensures ∙ c.in-Over-wait-3.is, c.in-JudgeDelay.is))
+returns-in-None-wait-3 c = λ x. c.to-in-None-wait-3.ensures ∙ moves c.before.before.before.before x _ (simp (sym c.wait-in-JudgeDelay.ensures ∙ c.in-None-wait-3.is, c.in-JudgeDelay.is))
 
 enum_told-in-JudgeWait : tie.Need-enum_told-in-JudgeWait
 enum_told-in-JudgeWait c = search rules
@@ -259,10 +259,10 @@ flowed_spec =
     wait-requires
     enum_known-u
     to-requires
-    returns-in-Still
+    returns-in-Some
     enum_told-1
-    to-requires-in-Over
-    returns-in-Over
+    to-requires-in-None
+    returns-in-None
     enum_told-in-LargeFlow
     is_reached-requires
     after_large-requires
@@ -272,12 +272,12 @@ flowed_spec =
     returns-in-LargeFlow
     enum_known-stage-in-MediumDisable-1
     wait-requires-in-MediumDisable
-    enum_known-u-in-Still-wait-2
-    to-requires-in-Still-wait
-    returns-in-Still-wait
-    enum_told-in-Over-wait
-    to-requires-in-Over-wait
-    returns-in-Over-wait
+    enum_known-u-in-Some-wait-2
+    to-requires-in-Some-wait
+    returns-in-Some-wait
+    enum_told-in-None-wait
+    to-requires-in-None-wait
+    returns-in-None-wait
     enum_told-in-MediumFlow
     is_reached-requires-in-MediumFlow
     to-requires-then-is_reached-2
@@ -286,12 +286,12 @@ flowed_spec =
     returns-in-MediumFlow
     enum_known-stage-in-SmallDisable-1
     wait-requires-in-SmallDisable
-    enum_known-u-in-Still-wait-3
-    to-requires-in-Still-wait-2
-    returns-in-Still-wait-2
-    enum_told-in-Over-wait-2
-    to-requires-in-Over-wait-2
-    returns-in-Over-wait-2
+    enum_known-u-in-Some-wait-3
+    to-requires-in-Some-wait-2
+    returns-in-Some-wait-2
+    enum_told-in-None-wait-2
+    to-requires-in-None-wait-2
+    returns-in-None-wait-2
     enum_told-in-SmallFlow
     is_reached-requires-in-SmallFlow
     to-requires-then-is_reached-3
@@ -300,12 +300,12 @@ flowed_spec =
     returns-in-SmallFlow
     enum_known-stage-in-JudgeDelay-1
     wait-requires-in-JudgeDelay
-    enum_known-u-in-Still-wait-4
-    to-requires-in-Still-wait-3
-    returns-in-Still-wait-3
-    enum_told-in-Over-wait-3
-    to-requires-in-Over-wait-3
-    returns-in-Over-wait-3
+    enum_known-u-in-Some-wait-4
+    to-requires-in-Some-wait-3
+    returns-in-Some-wait-3
+    enum_told-in-None-wait-3
+    to-requires-in-None-wait-3
+    returns-in-None-wait-3
     enum_told-in-JudgeWait
     judge-requires
     finish-requires
