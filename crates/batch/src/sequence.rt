@@ -37,12 +37,9 @@ pub fn start_sequence() -> Sequence
 pub fn discharge_sequence(q: Sequence) -> Sequence
     ensures { result ≡ discharge_sequence q }
 {
-    Sequence {
-        stage: Stage::DischargeStart(0),
-        clock: 0,
-        error: None,
-        judgement: q.judgement,
-    }
+    let mut begun = fresh(Stage::DischargeStart(0));
+    begun.judgement = q.judgement;
+    begun
 }
 
 // Stage 00.

@@ -51,13 +51,15 @@ pub fn outcome_number(o: Result<(), Refusal>) -> u8
 pub fn told_number(t: Result<(), LineRefusal>) -> u8
     ensures { result ≡ told_number t }
 {
-    match t {
-        Ok(()) => 0,
-        Err(LineRefusal::Request(n)) => refusal_number(n),
-        Err(LineRefusal::Malformed) => 11,
-        Err(LineRefusal::OtherAddress) => 12,
-        Err(LineRefusal::Unknown) => NO_REQUEST,
-        Err(LineRefusal::ShortBuffer) => SHORT_BUFFER,
+    let Err(refusal) = t else {
+        return 0;
+    };
+    match refusal {
+        LineRefusal::Request(n) => refusal_number(n),
+        LineRefusal::Malformed => 11,
+        LineRefusal::OtherAddress => 12,
+        LineRefusal::Unknown => NO_REQUEST,
+        LineRefusal::ShortBuffer => SHORT_BUFFER,
     }
 }
 
@@ -84,16 +86,18 @@ pub fn stage_number(stage: Stage) -> u8
 pub fn error_number(e: Option<SequenceError>) -> u8
     ensures { result ≡ error_number e }
 {
-    match e {
-        None => 0,
-        Some(SequenceError::NoFinal) => 1,
-        Some(SequenceError::Reached) => 2,
-        Some(SequenceError::Stopped) => 4,
-        Some(SequenceError::FlowTime) => 6,
-        Some(SequenceError::BadWeight) => 9,
-        Some(SequenceError::NotBooked) => 10,
-        Some(SequenceError::DischargeStopped) => 7,
-        Some(SequenceError::DischargeTime) => 8,
+    let Some(error) = e else {
+        return 0;
+    };
+    match error {
+        SequenceError::NoFinal => 1,
+        SequenceError::Reached => 2,
+        SequenceError::Stopped => 4,
+        SequenceError::FlowTime => 6,
+        SequenceError::BadWeight => 9,
+        SequenceError::NotBooked => 10,
+        SequenceError::DischargeStopped => 7,
+        SequenceError::DischargeTime => 8,
     }
 }
 
@@ -101,11 +105,13 @@ pub fn error_number(e: Option<SequenceError>) -> u8
 pub fn judgement_number(j: Option<Judgement>) -> u8
     ensures { result ≡ judgement_number j }
 {
-    match j {
-        None => 0,
-        Some(Judgement::Ok) => 1,
-        Some(Judgement::Over) => 2,
-        Some(Judgement::Under) => 3,
+    let Some(judgement) = j else {
+        return 0;
+    };
+    match judgement {
+        Judgement::Ok => 1,
+        Judgement::Over => 2,
+        Judgement::Under => 3,
     }
 }
 

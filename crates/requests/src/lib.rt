@@ -45,12 +45,20 @@ fn is_idle(q: Sequence) -> Result<(), Refusal>
     }
 }
 
-// Rows 3, 8, 4 and 5, of zero and tare. `barred` is the test of row 8, which is to zero only; `inside` is the test of the request's own
-// rule.
-fn is_still(q: Sequence, x: Weights, barred: bool, inside: bool) -> Result<(), Refusal>
-    ensures { result ≡ first_of (row3 q ∷ row8 barred ∷ row4 x ∷ row5 inside ∷ []) }
+// Rows 1, 2 and 3.
+fn is_ready(q: Sequence, x: Weights) -> Result<(), Refusal>
+    ensures { result ≡ first_of (row1 x ∷ row2 x ∷ row3 q ∷ []) }
 {
-    is_idle(q)?;
+    is_fit(x)?;
+    is_idle(q)
+}
+
+// Rows 1, 2, 3, 8, 4 and 5, of zero and tare. `barred` is the test of row 8, which is to zero only; `inside` is the test of the request's
+// own rule.
+fn is_still(q: Sequence, x: Weights, barred: bool, inside: bool) -> Result<(), Refusal>
+    ensures { result ≡ first_of (row1 x ∷ row2 x ∷ row3 q ∷ row8 barred ∷ row4 x ∷ row5 inside ∷ []) }
+{
+    is_ready(q, x)?;
     if barred {
         return Err(Refusal::ContactClosed);
     }
@@ -111,19 +119,10 @@ pub fn ruling(
         return Ok(());
     };
     match request {
-        Request::Zero => {
-            is_fit(x)?;
-            is_still(q, x, x.contact, zero::in_zero_range(range, x.raw))
-        }
-        Request::Tare => {
-            is_fit(x)?;
-            is_still(q, x, false, zero::in_tare_range(range, x.divisions))
-        }
+        Request::Zero => is_still(q, x, x.contact, zero::in_zero_range(range, x.raw)),
+        Request::Tare => is_still(q, x, false, zero::in_tare_range(range, x.divisions)),
         Request::TareClear => is_idle(q),
-        Request::Start => {
-            is_fit(x)?;
-            is_idle(q)
-        }
+        Request::Start => is_ready(q, x),
         Request::Stop => Ok(()),
         Request::Set(p) => keeps_rules(mode, p),
         Request::TotalClear => Ok(()),
@@ -131,11 +130,7 @@ pub fn ruling(
         Request::ShowGross => Ok(()),
         Request::ShowNet => Ok(()),
         Request::DayClose => is_good(x),
-        Request::Discharge => {
-            is_fit(x)?;
-            is_idle(q)?;
-            is_batching(mode)
-        }
+        Request::Discharge => is_ready(q, x).and(is_batching(mode)),
     }
 }
 

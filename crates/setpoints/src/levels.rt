@@ -33,6 +33,6 @@ pub fn is_full(m: Mode, p: Setpoints, x: Weights) -> bool
     }
     match m {
         Mode::Normal => false,
-        Mode::Loss => whole::below(p.optional as i64, x.gross as i64),
+        Mode::Loss => (p.optional as i64) < (x.gross as i64),
     }
 }

@@ -19,13 +19,11 @@ pub fn mode_of(m: i32) -> Mode
 fn board_of(b: i32) -> Option<Board>
     ensures { result ≡ board_of b }
 {
-    if b == 1 {
-        return Some(Board::Current);
+    match b {
+        1 => Some(Board::Current),
+        2 => Some(Board::Voltage),
+        _ => None,
     }
-    if b == 2 {
-        return Some(Board::Voltage);
-    }
-    None
 }
 
 // What is made of settings that passed the check, in types as narrow as their ranges: part by part, then whole.

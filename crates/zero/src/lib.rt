@@ -20,7 +20,7 @@ pub fn in_zero_range(r: Range, raw: i32) -> bool
 pub fn in_tare_range(r: Range, divisions: i64) -> bool
     ensures { result ≡ in_tare_range r divisions }
 {
-    whole::at_most(0, divisions) && whole::at_most(divisions, r.capacity as i64)
+    0 <= divisions && divisions <= r.capacity as i64
 }
 
 // The zero in force becomes raw.
