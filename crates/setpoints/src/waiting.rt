@@ -1,22 +1,8 @@
 // Request A5: the setpoints that are written while a batch or a discharge runs wait until its stage is 00 again.
 ghost use Rattle.std.specs.Prelude.{◌≡◌};
-ghost use Rattle.outline.specs.Setpoints.{none_waiting, waiting_for, latest_of};
+ghost use Rattle.outline.specs.Setpoints.{latest_of};
 
 use types::stages::Setpoints;
-
-// At an opening, and in every stage 00.
-pub fn none_waiting() -> Option<Setpoints>
-    ensures { result ≡ none_waiting }
-{
-    None
-}
-
-// A write replaces what waited before it.
-pub fn waiting_for(p: Setpoints) -> Option<Setpoints>
-    ensures { result ≡ waiting_for p }
-{
-    Some(p)
-}
 
 // The set that was written last: the waiting one if there is one, else the one in use. RS reads it, and it is in use once the stage is 00.
 pub fn latest(p: Setpoints, w: Option<Setpoints>) -> Setpoints
