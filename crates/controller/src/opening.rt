@@ -9,6 +9,7 @@ use types::machine::State;
 use types::settings::{Given, Settings};
 use types::weight::{Display, Panel, Stability, Weighing};
 
+#[tactic(auto, using(outline::proofs::AnswerLaws::opening_number_lem))]
 pub fn open(g: Given) -> Option<Settings>
     ensures opened { result ≡ open_of g }
     ensures number { opening_number result ≡ opening_due g }
@@ -17,6 +18,7 @@ pub fn open(g: Given) -> Option<Settings>
 }
 
 // The opening state. It takes settings that an opening accepted, so that a 10 leaves nothing to make a state from; it is the same for all.
+#[tactic(auto, unfolding(outline::specs::Tick::open_state))]
 pub fn open_state(_accepted: Settings) -> State
     ensures { result ≡ open_state }
 {
@@ -36,7 +38,7 @@ pub fn open_state(_accepted: Settings) -> State
             display: Display::Gross,
         },
         setpoints: setpoints::open_setpoints(),
-        waiting: setpoints::waiting::none_waiting(),
+        waiting: None,
         sequence: batch::sequence::open_sequence(),
         totals: totals::clear_totals(),
     }

@@ -3,7 +3,9 @@ ghost use Rattle.std.specs.Prelude.{◌≡◌};
 ghost use Rattle.outline.specs.Tick.{reading_of, outputs_of};
 ghost use Rattle.outline.specs.Steps.{answered_of};
 
+use types::daybook::Book;
 use types::machine::{Answer, Reading, State};
+use types::requests::Refusal;
 use types::settings::Settings;
 use types::weight::Weights;
 
@@ -20,30 +22,27 @@ pub fn reading(x: Weights) -> Reading
 }
 
 // Every output; `st` is the state after step 6, which leaves the display as step 4 did.
-pub fn outputs(s: Settings, outcome: Result<(), Refusal>, closed: Option<Book>, x: Weights, st: State) -> Answer
+#[tactic(auto, unfolding(outline::specs::Tick::outputs_of))]
+pub fn outputs(
+    s: Settings,
+    outcome: Result<(), Refusal>,
+    closed: Option<Book>,
+    x: Weights,
+    st: State,
+) -> Answer
     ensures { result ≡ outputs_of s (answered_of outcome closed st) x st }
 {
-    let batching = s.batching;
-    let mode = batching.mode;
-    let board = s.board;
-    let sequence = st.sequence;
-    let stage = sequence.stage;
-    let judgement = sequence.judgement;
-    let error = sequence.error;
-    let panel = st.panel;
-    let display = panel.display;
-    let shown = weight::displayed(display, x);
-    let fit = weight::is_fit(x);
+    let shown = weight::displayed(st.panel.display, x);
     Answer {
         outcome,
         reading: reading(x),
-        stage,
-        gates: batch::gates::open_gates(st.setpoints, stage),
-        judgement,
-        error,
+        stage: st.sequence.stage,
+        gates: batch::gates::open_gates(st.setpoints, st.sequence.stage),
+        judgement: st.sequence.judgement,
+        error: st.sequence.error,
         near: setpoints::levels::is_near(st.setpoints, x),
-        full: setpoints::levels::is_full(mode, st.setpoints, x),
-        analog: analog::analog_value(board, s.scale, shown, fit),
+        full: setpoints::levels::is_full(s.batching.mode, st.setpoints, x),
+        analog: analog::analog_value(s.board, s.scale, shown, weight::is_fit(x)),
         closed,
     }
 }

@@ -4,6 +4,7 @@ ghost use Rattle.outline.specs.Tick.{tick_of, unasked_of};
 ghost use Rattle.outline.specs.Numbers.{outcome_number};
 
 use crate::outputs::outputs;
+use crate::step::step;
 use types::machine::{State, Ticked};
 use types::settings::Settings;
 
@@ -18,36 +19,9 @@ pub fn unasked_tick(s: Settings, mut st: State, count: i32, contact: bool) -> Ti
     st.stability = steadied;
     st.book = daybook::book_tick(st.book, raw, contact);
     let x = weight::weigh(s, steadied, st.weighing, raw, contact);
-    let sequence = st.sequence;
-    let stage = sequence.stage;
-    let idle = batch::sequence::is_idle(stage);
+    let idle = batch::sequence::is_idle(st.sequence.stage);
     st.weighing = zero::tracking::tracked(s, idle, false, x, st.weighing);
-    if !idle {
-        let batching = s.batching;
-        let mode = batching.mode;
-        let v = batch::comparison::compared(mode, x);
-        let fit = weight::is_fit(x);
-        let a = batch::advance(
-            s.batching,
-            st.setpoints,
-            st.sequence,
-            !fit,
-            v,
-            x.stable,
-            x.gross,
-        );
-        let after = a.sequence;
-        let next = after.stage;
-        st.sequence = after;
-        if batch::sequence::is_idle(next) {
-            if a.finished {
-                st.sequence = totals::booked_sequence(st.totals, v, after);
-                st.totals = totals::booked_totals(st.totals, v);
-            }
-            st.setpoints = setpoints::waiting::latest(st.setpoints, st.waiting);
-            st.waiting = setpoints::waiting::none_waiting();
-        }
-    }
+    step(s, &mut st, x);
     Ticked {
         state: st,
         answer: outputs(s, Ok(()), None, x, st),
