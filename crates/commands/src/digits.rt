@@ -5,5 +5,5 @@ ghost use Rattle.outline.specs.Lines.{is_digit};
 pub fn is_digit(b: u8) -> bool
     ensures { result ≡ is_digit b }
 {
-    if 48 <= b { b <= 57 } else { false }
+    matches!(b, b'0'..=b'9')
 }

@@ -13,58 +13,53 @@ const LINE_LIMIT: usize = 64;
 pub fn byte_at(s: &[u8], i: usize) -> u8
     ensures { result ≡ get_or s.now i 0 }
 {
-    if i < s.len() { s[i] } else { 0 }
+    s.get(i).copied().unwrap_or(0)
 }
 
 fn is_cr_lf(a: u8, b: u8) -> bool
     ensures { result ≡ is_cr_lf a b }
 {
-    if a == 13 { b == 10 } else { false }
+    a == b'\r' && b == b'\n'
 }
 
 // The first CR LF decides: one that stands later is no end of this line, even where the first comes too late.
+#[tactic(auto, unfolding(outline::specs::Lines::line_end_of))]
 fn line_end(buf: &[u8]) -> Result<usize, NoEnd>
     ensures { result ≡ line_end_of buf.now }
 {
-    let mut i: usize = 0;
-    while i < buf.len() {
-        if is_cr_lf(byte_at(buf, i), byte_at(buf, i + 1)) {
-            if i <= LINE_LIMIT {
-                return Ok(i);
+    for (i, &b) in buf.iter().enumerate() {
+        if is_cr_lf(b, byte_at(buf, i + 1)) {
+            return if i <= LINE_LIMIT {
+                Ok(i)
             } else {
-                return Err(NoEnd::Beyond);
-            }
+                Err(NoEnd::Beyond)
+            };
         }
-        i += 1;
     }
     Err(NoEnd::Missing)
 }
 
 // The line is a part of the caller's own buffer, not a copy. Where there is none, or a long one, it is the empty part at the start.
+#[tactic(auto, unfolding(outline::specs::Lines::line_of))]
 pub fn line_of(buf: &[u8]) -> &[u8]
     ensures text { result.now ≡ line_of buf.now }
     ensures place { result.ref_ptr ≡ buf.entry.ref_ptr }
 {
     match line_end(buf) {
         Ok(n) => &buf[..n],
-        Err(NoEnd::Beyond) => &buf[..0],
-        Err(NoEnd::Missing) => &buf[..0],
+        Err(_) => &buf[..0],
     }
 }
 
 // What an empty part alone cannot tell: no line, a long line and an empty line.
+#[tactic(auto, unfolding(outline::specs::Lines::kind_of))]
 pub fn kind_of(buf: &[u8]) -> LineKind
     ensures kind { result ≡ kind_of buf.now }
     ensures number { kind_number result ≡ kind_due buf.now }
 {
     match line_end(buf) {
-        Ok(n) => {
-            if n == 0 {
-                LineKind::Empty
-            } else {
-                LineKind::Text
-            }
-        }
+        Ok(0) => LineKind::Empty,
+        Ok(_) => LineKind::Text,
         Err(NoEnd::Beyond) => LineKind::Long,
         Err(NoEnd::Missing) => LineKind::NoLine,
     }

@@ -1,14 +1,15 @@
 // What each command asks of its tick, what reply is due to it, and what it is told. Nothing is written here: whether the reply fits a
 // buffer is asked by others.
-ghost use Rattle.std.specs.Prelude.{◌≡◌};
-ghost use Rattle.outline.specs.Replies.{word_request, request_of, request_reply, word_reply, reply_due, outcome_told, told_of};
+ghost use Rattle.std.specs.Prelude.{◌≡◌, Some, Result, Err};
+ghost use Rattle.outline.specs.Replies.{word_request, request_of, request_reply, word_reply, reply_due, told_of};
 
 use crate::shown::shown_of;
 use commands::letters::{SET_LETTERS, letters_for};
+use numbers::told_number;
 use setpoints::waiting::latest;
 use types::lines::{LineFault, LineRefusal, Order, Reply, Word};
 use types::machine::{Reading, State};
-use types::requests::Request;
+use types::requests::{Refusal, Request};
 
 // The three reads ask nothing of the tick: they are answered from what it shows.
 fn word_request(w: Word) -> Option<Request>
@@ -33,22 +34,19 @@ fn word_request(w: Word) -> Option<Request>
 }
 
 // A line that is refused asks for nothing, so that its tick runs as one without a request.
+#[tactic(auto, unfolding(outline::specs::Replies::request_of))]
 pub fn request_of(c: Result<Order, LineFault>) -> Option<Request>
     ensures { result ≡ request_of c }
 {
     match c {
         Ok(Order::Do(w)) => word_request(w),
         Ok(Order::Set(p)) => Some(Request::Set(p)),
-        Err(LineFault::NoLine) => None,
-        Err(LineFault::LongLine) => None,
-        Err(LineFault::OtherAddress) => None,
-        Err(LineFault::Malformed) => None,
-        Err(LineFault::Unknown) => None,
+        Err(_) => None,
     }
 }
 
 fn request_reply(letters: u16, o: Result<(), Refusal>) -> Reply
-    ensures { result ≡ request_reply letters o }
+    ensures { Some result ≡ request_reply letters o }
 {
     match o {
         Ok(()) => Reply::Letters(letters),
@@ -58,59 +56,53 @@ fn request_reply(letters: u16, o: Result<(), Refusal>) -> Reply
 
 // A read shows the state; another word is replied by how it was settled.
 fn word_reply(w: Word, st: State, x: Reading, o: Result<(), Refusal>) -> Reply
-    ensures { result ≡ word_reply w st x o }
+    ensures { Some result ≡ word_reply w st x o }
 {
     match w {
-        Word::ReadWeight => {
-            let panel = st.panel;
-            let display = panel.display;
-            Reply::Weight(shown_of(display, x))
-        }
+        Word::ReadWeight => Reply::Weight(shown_of(st.panel.display, x)),
         Word::ReadTotal => Reply::Total(st.totals.total, st.totals.count),
-        Word::ReadSetpoints => {
-            let points = latest(st.setpoints, st.waiting);
-            Reply::Points(points)
-        }
+        Word::ReadSetpoints => Reply::Points(latest(st.setpoints, st.waiting)),
         _ => request_reply(letters_for(w), o),
     }
 }
 
 // The reply due to a line, from the state as step 4 leaves it and the tick's reading and outcome. Who did not speak to this address, or
 // sent no line that can be told from noise, hears nothing.
-pub fn reply_due(c: Result<Order, LineFault>, st: State, x: Reading, o: Result<(), Refusal>) -> Reply
+#[tactic(auto, unfolding(outline::specs::Replies::reply_due))]
+pub fn reply_due(
+    c: Result<Order, LineFault>,
+    st: State,
+    x: Reading,
+    o: Result<(), Refusal>,
+) -> Option<Reply>
     ensures { result ≡ reply_due c st x o }
 {
     match c {
-        Ok(Order::Do(w)) => word_reply(w, st, x, o),
-        Ok(Order::Set(_)) => request_reply(SET_LETTERS, o),
-        Err(LineFault::NoLine) => None,
-        Err(LineFault::LongLine) => None,
-        Err(LineFault::OtherAddress) => None,
-        Err(LineFault::Malformed) => Reply::Refused(numbers::told_number(Err(LineRefusal::Malformed))),
-        Err(LineFault::Unknown) => Reply::Refused(numbers::told_number(Err(LineRefusal::Unknown))),
+        Ok(Order::Do(w)) => Some(word_reply(w, st, x, o)),
+        Ok(Order::Set(_)) => Some(request_reply(SET_LETTERS, o)),
+        Err(LineFault::NoLine | LineFault::LongLine | LineFault::OtherAddress) => None,
+        Err(LineFault::Malformed) => Some(Reply::Refused(told_number(Err(LineRefusal::Malformed)))),
+        Err(LineFault::Unknown) => Some(Reply::Refused(told_number(Err(LineRefusal::Unknown)))),
     }
 }
 
-fn outcome_told(o: Result<(), Refusal>) -> Result<(), LineRefusal>
-    ensures { result ≡ outcome_told o }
+// What a line is told that asks for nothing, whatever its tick answers.
+#[tactic(auto, unfolding(outline::specs::Replies::told_of))]
+fn refusal_of(fault: LineFault) -> LineRefusal
+    ensures { (o : Result (Unit {0}) Refusal) → Err result ≡ told_of (Err fault) o }
 {
-    match o {
-        Ok(()) => Ok(()),
-        Err(n) => Err(LineRefusal::Request(n)),
+    match fault {
+        LineFault::OtherAddress => LineRefusal::OtherAddress,
+        LineFault::Unknown => LineRefusal::Unknown,
+        LineFault::NoLine | LineFault::LongLine | LineFault::Malformed => LineRefusal::Malformed,
     }
 }
 
 // What a line is told, where the reply due to it fits. Only a line that was understood is answered by the tick's outcome.
+#[tactic(auto, unfolding(outline::specs::Replies::told_of))]
 pub fn told_of(c: Result<Order, LineFault>, o: Result<(), Refusal>) -> Result<(), LineRefusal>
     ensures { result ≡ told_of c o }
 {
-    match c {
-        Ok(Order::Do(_)) => outcome_told(o),
-        Ok(Order::Set(_)) => outcome_told(o),
-        Err(LineFault::NoLine) => Err(LineRefusal::Malformed),
-        Err(LineFault::LongLine) => Err(LineRefusal::Malformed),
-        Err(LineFault::OtherAddress) => Err(LineRefusal::OtherAddress),
-        Err(LineFault::Malformed) => Err(LineRefusal::Malformed),
-        Err(LineFault::Unknown) => Err(LineRefusal::Unknown),
-    }
+    c.map_err(refusal_of)?;
+    o.map_err(LineRefusal::Request)
 }

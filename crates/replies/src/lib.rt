@@ -7,7 +7,7 @@ ghost use Rattle.outline.specs.Replies.{prefix_text, reply_text, written_of};
 ghost use Rattle.replies.specs.Put.{Put};
 ghost use Rattle.replies.specs.Wrote.{wrote_of};
 
-use crate::put::{DIGIT_ZERO, put_byte, put_pair};
+use crate::put::put_bytes;
 use crate::text::{put_text, text_length};
 use commands::prefix::prefix_length;
 use types::lines::Reply;
@@ -17,55 +17,43 @@ pub mod put;
 mod shown;
 mod text;
 
-// "@" before the address
-const AT_SIGN: u8 = 64;
-
-const CR: u8 = 13;
-
-const LF: u8 = 10;
-
+// CR and LF.
 const END_BYTES: usize = 2;
 
-// How many bytes the reply has, or that the buffer is shorter than that.
+// The buffer is shorter than the reply.
 #[derive(Clone, Copy)]
-pub enum Wrote {
-    Bytes(usize),
-    Short,
-}
+pub struct ShortBuffer;
 
 // The prefix that the address asks for, at the buffer's start.
+#[tactic(auto, unfolding(outline::specs::Lines::prefix_length))]
 fn put_prefix(buffer: &mut [u8], address: u8) -> usize
     requires { prefix_length address ≤ length buffer.old }
     ensures { Put buffer.old 0 (prefix_text address) buffer.new result (prefix_length address) }
 {
-    if 0 < address {
-        let n = put_byte(buffer, 0, AT_SIGN);
-        put_pair(
-            buffer,
-            n,
-            DIGIT_ZERO + address / 10 % 10,
-            DIGIT_ZERO + address % 10,
-        )
-    } else {
-        0
+    if address == 0 {
+        return 0;
     }
+    put_bytes(
+        buffer,
+        0,
+        &[b'@', b'0' + address / 10 % 10, b'0' + address % 10],
+    )
 }
 
-// The reply due to a line: prefix, text and CR LF. A reply without text is silent: it has no other byte, and fits any buffer.
-pub fn write_reply(buffer: &mut [u8], address: u8, r: Reply) -> Wrote
+// The reply due to a line: prefix, text and CR LF. Where none is due nothing is written, so that it fits any buffer. It answers how many
+// bytes the reply has.
+pub fn write_reply(buffer: &mut [u8], address: u8, r: Option<Reply>) -> Result<usize, ShortBuffer>
     ensures answer { result ≡ wrote_of (reply_text address r) buffer.old }
     ensures bytes { buffer.new ≡ written_of (reply_text address r) buffer.old }
 {
-    let text = text_length(r);
-    if text == 0 {
+    let Some(due) = r else {
         return Ok(0);
-    }
-    let prefix = prefix_length(address) as usize;
-    if buffer.len() < prefix + text + END_BYTES {
+    };
+    let prefix = usize::from(prefix_length(address));
+    if buffer.len() < prefix + text_length(due) + END_BYTES {
         return Err(ShortBuffer);
     }
     let n = put_prefix(buffer, address);
-    let n = put_text(buffer, n, r);
-    let n = put_pair(buffer, n, CR, LF);
-    Ok(n)
+    let n = put_text(buffer, n, due);
+    Ok(put_bytes(buffer, n, b"\r\n"))
 }

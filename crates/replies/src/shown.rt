@@ -10,12 +10,10 @@ use types::weight::Display;
 fn shows_net(d: Display) -> bool
     ensures { result ≡ shows_net d }
 {
-    match d {
-        Display::Gross => false,
-        Display::Net => true,
-    }
+    matches!(d, Display::Net)
 }
 
+// The weight crate asks the same of Weights. A trait over both needs four methods for each, more than these two bodies.
 fn is_fit(x: Reading) -> bool
     ensures { result ≡ is_fit x }
 {
@@ -38,9 +36,10 @@ fn is_minus(fit: bool, shown: i32, x: Reading) -> bool
     if fit {
         return shown < 0;
     }
-    if x.overload { x.gross < 0 } else { false }
+    x.overload && x.gross < 0
 }
 
+#[tactic(auto, unfolding(outline::specs::Replies::shown_of))]
 pub(crate) fn shown_of(d: Display, x: Reading) -> Shown
     ensures { result ≡ shown_of d x }
 {
@@ -51,6 +50,6 @@ pub(crate) fn shown_of(d: Display, x: Reading) -> Shown
         stable: x.stable,
         net: shows_net(d),
         negative: is_minus(fit, shown, x),
-        amount: whole::magnitude(shown as i64),
+        amount: u64::from(shown.unsigned_abs()),
     }
 }

@@ -1,18 +1,12 @@
 // The text of each kind of reply, between prefix and CR LF.
-ghost use Rattle.std.specs.Prelude.{◌≡◌, cond, ◌+◌, ◌≤◌, length};
+ghost use Rattle.std.specs.Prelude.{◌≡◌, cond, ◌+◌, ◌≤◌, length, Some};
 ghost use Rattle.outline.specs.Replies.{sign_byte, amount_text, weight_text, total_text, points_text, refused_text, digits_of};
 ghost use Rattle.replies.specs.Put.{Put};
 ghost use Rattle.outline.specs.Texts.{text_of, text_length};
 
-use crate::put::{put_byte, put_digits, put_letters, put_pair, put_spaces};
+use crate::put::{put_bytes, put_digits, put_letters};
 use types::lines::{Reply, Shown};
 use types::stages::Setpoints;
-
-const COMMA: u8 = 44;
-
-const PLUS: u8 = 43;
-
-const MINUS: u8 = 45;
 
 // stable
 const ST: u16 = 0x5354;
@@ -72,7 +66,7 @@ fn display_letters(w: Shown) -> u16
 fn sign_byte(w: Shown) -> u8
     ensures { result ≡ sign_byte w }
 {
-    if w.negative { MINUS } else { PLUS }
+    if w.negative { b'-' } else { b'+' }
 }
 
 // Digits, or spaces where there is no weight to show.
@@ -83,7 +77,7 @@ fn put_amount(buffer: &mut [u8], at: usize, w: Shown) -> usize
     if w.fit {
         put_digits(buffer, at, AMOUNT_DIGITS, w.amount)
     } else {
-        put_spaces(buffer, at, AMOUNT_DIGITS)
+        put_bytes(buffer, at, &[b' '; AMOUNT_DIGITS])
     }
 }
 
@@ -93,9 +87,9 @@ fn put_weight(buffer: &mut [u8], at: usize, w: Shown) -> usize
     ensures { Put buffer.old at (weight_text w) buffer.new result 16 }
 {
     let n = put_letters(buffer, at, status_letters(w));
-    let n = put_byte(buffer, n, COMMA);
+    let n = put_bytes(buffer, n, b",");
     let n = put_letters(buffer, n, display_letters(w));
-    let n = put_pair(buffer, n, COMMA, sign_byte(w));
+    let n = put_bytes(buffer, n, &[b',', sign_byte(w)]);
     let n = put_amount(buffer, n, w);
     put_letters(buffer, n, KG)
 }
@@ -105,15 +99,15 @@ fn put_total(buffer: &mut [u8], at: usize, total: u64, count: u32) -> usize
     ensures { Put buffer.old at (total_text total count) buffer.new result 17 }
 {
     let n = put_digits(buffer, at, TOTAL_DIGITS, total);
-    let n = put_byte(buffer, n, COMMA);
-    put_digits(buffer, n, TOTAL_DIGITS, count as u64)
+    let n = put_bytes(buffer, n, b",");
+    put_digits(buffer, n, TOTAL_DIGITS, u64::from(count))
 }
 
 fn put_setpoint(buffer: &mut [u8], at: usize, value: u32) -> usize
     requires { at + 6 ≤ length buffer.old }
     ensures { Put buffer.old at (digits_of 6 value) buffer.new result 6 }
 {
-    put_digits(buffer, at, SETPOINT_DIGITS, value as u64)
+    put_digits(buffer, at, SETPOINT_DIGITS, u64::from(value))
 }
 
 fn put_points(buffer: &mut [u8], at: usize, p: Setpoints) -> usize
@@ -129,19 +123,19 @@ fn put_points(buffer: &mut [u8], at: usize, p: Setpoints) -> usize
     put_setpoint(buffer, n, p.near)
 }
 
+#[tactic(auto, using(crate::specs::Writers::more), unfolding(outline::specs::Replies::refused_text))]
 fn put_refused(buffer: &mut [u8], at: usize, number: u8) -> usize
     requires { at + 4 ≤ length buffer.old }
     ensures { Put buffer.old at (refused_text number) buffer.new result 4 }
 {
     let n = put_letters(buffer, at, NG);
-    put_digits(buffer, n, REFUSAL_DIGITS, number as u64)
+    put_digits(buffer, n, REFUSAL_DIGITS, u64::from(number))
 }
 
 pub(crate) fn text_length(r: Reply) -> usize
-    ensures { result ≡ text_length r }
+    ensures { result ≡ text_length (Some r) }
 {
     match r {
-        None => 0,
         Reply::Letters(_) => LETTERS_BYTES,
         Reply::Weight(_) => WEIGHT_BYTES,
         Reply::Total(_, _) => TOTAL_BYTES,
@@ -151,11 +145,10 @@ pub(crate) fn text_length(r: Reply) -> usize
 }
 
 pub(crate) fn put_text(buffer: &mut [u8], at: usize, r: Reply) -> usize
-    requires { at + text_length r ≤ length buffer.old }
-    ensures { Put buffer.old at (text_of r) buffer.new result (text_length r) }
+    requires { at + text_length (Some r) ≤ length buffer.old }
+    ensures { Put buffer.old at (text_of (Some r)) buffer.new result (text_length (Some r)) }
 {
     match r {
-        None => at,
         Reply::Letters(k) => put_letters(buffer, at, k),
         Reply::Weight(w) => put_weight(buffer, at, w),
         Reply::Total(total, count) => put_total(buffer, at, total, count),

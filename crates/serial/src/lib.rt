@@ -7,29 +7,29 @@ ghost use Rattle.outline.specs.Numbers.{told_number};
 ghost use Rattle.outline.specs.Answers.{line_due};
 ghost use Rattle.outline.specs.Replies.{line_ticked, line_tick_of, reply_buffer};
 
-use replies::Wrote;
+use replies::ShortBuffer;
 use replies::due::{reply_due, request_of, told_of};
 use types::lines::{LineRefusal, LineTick};
-use types::machine::{Answer, Input, State};
+use types::machine::{Input, State};
 use types::settings::Settings;
 
-fn with_line(told: Result<(), LineRefusal>, length: usize, answer: Answer, state: State) -> LineTick
-    ensures { result ≡ record { told = told; length = length; answer = answer; state = state } }
-{
-    LineTick {
-        told,
-        length,
-        answer,
-        state,
-    }
-}
-
 // A tick without a request, and what its line is told: nothing is replied.
-fn silent_tick(told: Result<(), LineRefusal>, s: Settings, st: State, count: i32, contact: bool) -> LineTick
+fn silent_tick(
+    told: Result<(), LineRefusal>,
+    s: Settings,
+    st: State,
+    count: i32,
+    contact: bool,
+) -> LineTick
     ensures { result ≡ line_ticked told 0 (tick_of s st (unasked_of count contact)) }
 {
     let t = controller::unasked::unasked_tick(s, st, count, contact);
-    with_line(told, 0, t.answer, t.state)
+    LineTick {
+        told,
+        length: 0,
+        answer: t.answer,
+        state: t.state,
+    }
 }
 
 // A tick that no line comes with.
@@ -64,16 +64,14 @@ pub fn line_tick(
             request,
         },
     );
-    let answer = t.answer;
-    let outcome = answer.outcome;
-    let due = reply_due(command, st, answer.reading, outcome);
+    let due = reply_due(command, st, t.answer.reading, t.answer.outcome);
     match replies::write_reply(reply, s.address, due) {
-        Ok(length) => return with_line(
-            told_of(command, outcome),
+        Ok(length) => LineTick {
+            told: told_of(command, t.answer.outcome),
             length,
-            t.answer,
-            t.state,
-        ),
-        Err(ShortBuffer) => return silent_tick(Err(LineRefusal::ShortBuffer), s, st, count, contact),
+            answer: t.answer,
+            state: t.state,
+        },
+        Err(ShortBuffer) => silent_tick(Err(LineRefusal::ShortBuffer), s, st, count, contact),
     }
 }
