@@ -27,6 +27,7 @@ fn board_of(b: i32) -> Option<Board>
 }
 
 // What is made of settings that passed the check, in types as narrow as their ranges: part by part, then whole.
+// A struct of checked settings with this as its invariant was tried in place of the clause: the casts' proofs didn't close.
 fn calibration_of(g: Given) -> Calibration
     requires { settings_fit g ≡ true }
     ensures { result ≡ (settings_of g).calibration }
