@@ -9,8 +9,8 @@ use mathlib.Core.List.{List, [], ◌∷◌, ◌++◌, append_assoc}
 use mathlib.Core.Bool.{Bool, true, false, cond}
 use borrow.Author.Tests.{le-leb, lt-leb}
 use lib.Dec.{leb-zero, eqb}
-use lib.ListN.{length, replicate, get_or, take, drop, set, length-append, length-take, drop_of_length-le}
-use lib.Seq.{sets, length-sets, set-set, drop-cons, get_or-take}
+use lib.ListN.{length, get_or, take, drop, set, length-append, drop_of_length-le}
+use lib.Seq.{sets, length-sets, set-set, drop-cons, take_all}
 use Rattle.types.specs.declared.daybook.Book.{Book}
 use Rattle.types.specs.declared.weight.Weighing.{Weighing}
 use Rattle.types.specs.declared.stages.Totals.{Totals}
@@ -51,19 +51,19 @@ unfolding number_lines
 numbers_short [] = zero-le
 numbers_short (a ∷ s) = rw length-append (omega (arith, number_short a, numbers_short s))
 
-pub numbers_few : (s : List Amount) (n : ℕ) → n ≤ 8 → length (number_lines (take n s)) ≤ 176
-numbers_few s n h = omega (arith, numbers_short (take n s), length-take n s)
+pub numbers_few : (s : List Amount) → length s ≤ 8 → length (number_lines s) ≤ 176
+numbers_few s h = omega (arith, numbers_short s)
 
 pub numbers_end : (s : List Amount) (i : ℕ) → length s ≤ i → length (number_lines (drop i s)) ≡ 0
 unfolding number_lines
 numbers_end s i h = rw (drop_of_length-le s h)
 
-pub numbers_more : (s : List Amount) (i n : ℕ) (z : Amount) → i < length (take n s) → i < n → length (number_lines (drop i (take n s))) ≡ length (number_line (get_or s i z)) + length (number_lines (drop (i + 1) (take n s)))
+pub numbers_more : (s : List Amount) (i : ℕ) (z : Amount) → i < length s → length (number_lines (drop i s)) ≡ length (number_line (get_or s i z)) + length (number_lines (drop (i + 1) s))
 unfolding number_lines
-numbers_more s i n z h l = rw (drop-cons (take n s) i z h, get_or-take n s i z l, add-one) (length-append (number_line (get_or s i z)) (number_lines (drop (suc i) (take n s))))
+numbers_more s i z h = rw (drop-cons s i z h, add-one) (length-append (number_line (get_or s i z)) (number_lines (drop (suc i) s)))
 
 -- ---- the text's length
-pub filled_length : (keys : List ℕ) (s : List Amount) → marks keys ≤ length s → length (filled keys s) ≡ length keys + length (number_lines (take (marks keys) s))
+filled_length : (keys : List ℕ) (s : List Amount) → marks keys ≤ length s → length (filled keys s) ≡ length keys + length (number_lines (take (marks keys) s))
 unfolding filled marks number_lines
 filled_length [] s h = refl
 filled_length (x ∷ keys) [] h = go (eqb x 61) h (λ k. filled_length keys [] k)
@@ -76,6 +76,9 @@ filled_length (x ∷ keys) (a ∷ s) h = go (eqb x 61) h (λ k. filled_length ke
     go : (t : Bool) → cond t (suc (marks keys)) (marks keys) ≤ suc (length s) → (marks keys ≤ length s → length (filled keys s) ≡ length keys + length (number_lines (take (marks keys) s))) → (marks keys ≤ suc (length s) → length (filled keys (a ∷ s)) ≡ length keys + length (number_lines (take (marks keys) (a ∷ s)))) → suc (length (cond t (number_line a ++ filled keys s) (filled keys (a ∷ s)))) ≡ suc (length keys) + length (number_lines (take (cond t (suc (marks keys)) (marks keys)) (a ∷ s)))
     go true k p q = rw (length-append (number_line a) (filled keys s), length-append (number_line a) (number_lines (take (marks keys) s))) (omega (arith, p (omega arith)))
     go false k p q = omega (arith, q k)
+
+pub filled_all : (keys : List ℕ) (s : List Amount) → marks keys ≡ length s → length (filled keys s) ≡ length keys + length (number_lines s)
+filled_all keys s e = filled_length keys s (omega arith) ∙ ap (λ (l : List Amount). length keys + length (number_lines l)) (take_all (marks keys) s (omega arith))
 
 -- ---- what is still to be put of it
 sets_append : (l : List ℕ) (i : ℕ) (xs ys : List ℕ) → sets (sets l i xs) (i + length xs) ys ≡ sets l i (xs ++ ys)
@@ -147,7 +150,7 @@ pub ticket_lines : (w : Weighing) (t : Totals) (b : Book) {c : Option Book} {s :
 unfolding ticket_text
 ticket_lines w t b e q = rw (e, q) (ticket_text_lem b w t)
 
-pub refused_line : (n : ℕ) → filled (ascii "refused=") (replicate 8 (count_of n)) ≡ refused_text n
+pub refused_line : (n : ℕ) → filled (ascii "refused=") (count_of n ∷ []) ≡ refused_text n
 unfolding filled refused_text pair_text number_line
 refused_line n = simp append_assoc
 

@@ -1,6 +1,6 @@
 -- The tick of a request, by whether there is one. What a call gave is told of the count z and the bytes `lent` that it was handed; q and p say
 -- that these are the log's count and the request as it is received.
-use Rattle.std.specs.Prelude.{}
+use Rattle.std.specs.Prelude.{Ok}
 use Prim.Native.Nat.{ℕ}
 use mathlib.Core.Path.{◌≡◌, ◌∙◌}
 use mathlib.Core.List.{List}
@@ -14,7 +14,7 @@ use Rattle.types.specs.declared.machine.State.{State}
 use Rattle.types.specs.declared.lines.LineTick.{LineTick}
 
 module _ (s : Settings) (st : State) (contact : Bool) (request buffer : List ℕ) {z count : ℤ} (q : z ≡ count) where
-  pub none : is_none request ≡ true → {r : LineTick} → r ≡ line_ticked Done 0 (tick_of s st (unasked_of z contact)) → r ≡ request_tick s st count contact request buffer
+  pub none : is_none request ≡ true → {r : LineTick} → r ≡ line_ticked (Ok tt) 0 (tick_of s st (unasked_of z contact)) → r ≡ request_tick s st count contact request buffer
   unfolding request_tick
   none n e = e ∙ simp (n, q)
 

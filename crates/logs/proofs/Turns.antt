@@ -1,20 +1,14 @@
--- One turn of each loop: a byte more passed, a byte more moved. Assumes nothing.
+-- Bytes that are moved down in their buffer. Assumes nothing.
 use Prim.Native.Nat.{ℕ, zero, suc, ◌+◌, ◌-◌, ◌≤◌, ◌<◌}
 use native.Mathlib.Numerals.{add-one}
 use native.Mathlib.Nat.{add_comm}
 use native.Mathlib.Omega.{arith}
 use mathlib.Core.Path.{◌≡◌, refl, sym, ap, ◌∙◌}
 use mathlib.Core.List.{List, [], ◌∷◌, ◌++◌, append_assoc}
-use mathlib.Core.Bool.{cond}
-use lib.Dec.{eqb}
 use lib.ListN.{length, get_or, set, take, drop, length-take, length-drop}
 use lib.Seq.{drop-cons, take-suc, set_at, length-take-le, get_or-append-add, get_or-drop}
-use Rattle.outline.specs.Log.{lf_from, between}
+use Rattle.outline.specs.Log.{between}
 
-pub look : (s : List ℕ) (i : ℕ) → i < length s → lf_from i (drop i s) ≡ cond (eqb (get_or s i 0) 10) i (lf_from (i + 1) (drop (i + 1) s))
-look s i h = rw (drop-cons s i 0 h, add-one)
-
--- ---- bytes that are moved down
 pub between_within : (l : List ℕ) (from end : ℕ) → length (between l from end) ≤ length l - from
 between_within l from end = simp (length-take, length-drop) (omega arith)
 

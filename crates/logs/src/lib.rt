@@ -6,7 +6,7 @@ ghost use Rattle.std.specs.Prelude.{◌≡◌};
 ghost use Rattle.outline.specs.Log.{is_contact, is_rest, log_line_of, is_none};
 
 use commands::line::byte_at;
-use types::log::{LogLine, LogNumber};
+use types::log::LogLine;
 
 pub mod numerals;
 mod pairs;
@@ -24,78 +24,44 @@ const GAP: usize = 3;
 // The most bytes behind a count.
 const REST_LIMIT: usize = GAP + REQUEST_LIMIT;
 
-// The bytes of the request that is none.
-const NONE_LENGTH: usize = 2;
-
-const SPACE: u8 = 32;
-
-const OPEN: u8 = 48;
-
-const CLOSED: u8 = 49;
-
 fn is_contact(b: u8) -> bool
     ensures { result ≡ is_contact b }
 {
-    if b == OPEN { true } else { b == CLOSED }
+    matches!(b, b'0' | b'1')
 }
 
 // What stands behind the count: a space, the contact, a space, a request.
 fn is_rest(rest: &[u8]) -> bool
     ensures { result ≡ is_rest rest.now 0 }
 {
-    if rest.len() <= GAP {
-        return false;
-    }
-    if REST_LIMIT < rest.len() {
-        return false;
-    }
-    if byte_at(rest, 0) != SPACE {
-        return false;
-    }
-    if byte_at(rest, 2) != SPACE {
-        return false;
-    }
-    is_contact(byte_at(rest, 1))
+    byte_at(rest, 0) == b' '
+        && is_contact(byte_at(rest, 1))
+        && byte_at(rest, 2) == b' '
+        && GAP < rest.len()
+        && rest.len() <= REST_LIMIT
 }
 
-// What is said of a line that can't be read.
-const UNREADABLE: LogLine = LogLine {
-    read: false,
-    count: 0,
-    contact: false,
-    request: 0,
-};
-
-// The count tells where the rest begins, so it is read first.
-fn log_line(line: &[u8]) -> LogLine
+// What a line says, where it can be read. The count tells where the rest begins, so it is read first.
+#[tactic(auto, unfolding(outline::specs::Log::log_line_of))]
+fn log_line(line: &[u8]) -> Option<LogLine>
     ensures { result ≡ log_line_of line.now }
 {
-    let LogNumber::Number(count, at) = crate::numerals::number_at(line, 0) else {
-        return UNREADABLE;
-    };
-    let rest = crate::pieces::part(line, at, line.len());
-    if is_rest(rest) {
-        let contact = byte_at(rest, 1) == CLOSED;
-        let request = at + GAP;
-        return LogLine {
-            read: true,
-            count,
-            contact,
-            request,
-        };
+    let count = numerals::number_at(line, 0)?;
+    let rest = pieces::part(line, count.end, line.len());
+    if !is_rest(rest) {
+        return None;
     }
-    UNREADABLE
+    Some(LogLine {
+        count: count.value,
+        contact: byte_at(rest, 1) == b'1',
+        request: count.end + GAP,
+    })
 }
 
 // `--` asks for nothing.
+#[tactic(auto, unfolding(outline::specs::Log::is_none))]
 fn is_none(request: &[u8]) -> bool
     ensures { result ≡ is_none request.now }
 {
-    if request.len() != NONE_LENGTH {
-        return false;
-    }
-    if byte_at(request, 0) != crate::numerals::MINUS {
-        return false;
-    }
-    byte_at(request, 1) == crate::numerals::MINUS
+    matches!(request, [b'-', b'-'])
 }

@@ -6,12 +6,11 @@ ghost use Rattle.outline.specs.Replies.{written_of};
 ghost use Rattle.outline.specs.Ticket.{ticket_text, refused_text, fitted_in};
 ghost use Rattle.logs.specs.Amounts.{amounts_of};
 
-use crate::pairs::{Amount, NUMBERS, amount_of, write_text};
+use crate::pairs::{Amount, amount_of, write_text};
 use types::daybook::Book;
 use types::settings::Given;
 use types::stages::Totals;
 use types::weight::Weighing;
-use whole::wide;
 
 // Settings A of the outline, with a discharge's.
 pub fn settings_a() -> Given
@@ -47,26 +46,24 @@ pub fn settings_a() -> Given
 }
 
 // The numbers of a ticket in the order of its lines: those of the day that was closed, and those that are as the tick leaves them.
-fn amounts_of(book: Book, weighing: Weighing, totals: Totals) -> [Amount; NUMBERS]
+fn amounts_of(book: Book, weighing: Weighing, totals: Totals) -> [Amount; 8]
     ensures { result ≡ amounts_of book weighing totals }
 {
-    let batches = Amount {
-        minus: false,
-        size: totals.count as u64,
-    };
-    let total = Amount {
-        minus: false,
-        size: totals.total,
-    };
     [
-        amount_of(wide(book.opening)),
+        amount_of(i64::from(book.opening)),
         amount_of(book.refilled),
         amount_of(book.used),
         amount_of(book.unbooked),
-        amount_of(wide(book.last)),
-        amount_of(wide(weighing.tracked)),
-        batches,
-        total,
+        amount_of(i64::from(book.last)),
+        amount_of(i64::from(weighing.tracked)),
+        Amount {
+            minus: false,
+            size: u64::from(totals.count),
+        },
+        Amount {
+            minus: false,
+            size: totals.total,
+        },
     ]
 }
 
@@ -81,8 +78,7 @@ pub fn write_ticket(out: &mut [u8], closed: Option<Book>, weighing: Weighing, to
     write_text(
         out,
         b"opening=refilled=used=unbooked=closing=tracked=batches=total=",
-        amounts_of(book, weighing, totals),
-        NUMBERS,
+        &amounts_of(book, weighing, totals),
     )
 }
 
@@ -95,5 +91,5 @@ pub fn write_refused(out: &mut [u8], number: u64) -> usize
         minus: false,
         size: number,
     };
-    write_text(out, b"refused=", [a; NUMBERS], 1)
+    write_text(out, b"refused=", &[a])
 }

@@ -6,10 +6,6 @@ use types::lines::LineTick;
 use types::machine::State;
 use types::settings::Settings;
 
-const CR: u8 = 13;
-
-const LF: u8 = 10;
-
 const END_BYTES: usize = 2;
 
 // Room for the longest request and its CR LF.
@@ -21,17 +17,15 @@ fn put_received(receive: &mut [u8], command: &[u8]) -> usize
     ensures count { result ≡ length command.now + 2 }
     ensures bytes { take (length command.now + 2) receive.new ≡ with_cr_lf command.now }
 {
-    let mut i: usize = 0;
-    while i < command.len() {
-        receive[i] = command[i];
-        i += 1;
-    }
-    receive[i] = CR;
-    receive[i + 1] = LF;
-    i + END_BYTES
+    let n = command.len();
+    receive[..n].copy_from_slice(command);
+    receive[n] = b'\r';
+    receive[n + 1] = b'\n';
+    n + END_BYTES
 }
 
 // Any request but none is a serial command, even one that the controller won't know: it comes as it would from the line, with CR LF.
+#[tactic(auto, unfolding(outline::specs::Log::request_tick, outline::specs::Log::request_buffer))]
 pub fn request_tick(
     s: Settings,
     st: State,
