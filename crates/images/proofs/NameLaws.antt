@@ -16,6 +16,8 @@ use Rattle.types.specs.declared.stages.Judgement.{Judgement}
 use Rattle.types.specs.declared.stages.Judgement.TheVariants as judgement
 use Rattle.outline.specs.Numbers.{stage_number, error_number, judgement_number}
 use Rattle.images.specs.Holds.{HeldSetpoints}
+use Rattle.std.specs.Option.{unwrap_or}
+use Rattle.outline.specs.Setpoints.{open_setpoints}
 use Rattle.images.specs.StateImage.{display_number, display_of, stage_of, stage_timer, error_of, judgement_of, back_tag, back_weight, back_of, write_tag, write_points, write_of}
 
 pub flag_back : (b : Bool) → flag_of (flag_tag b) ≡ b
@@ -127,6 +129,11 @@ pub write_lt : (w : Option Setpoints) → write_tag w < 256
 unfolding write_tag
 write_lt None = omega arith
 write_lt (Some p) = omega arith
+
+pub points_else : (w : Option Setpoints) → unwrap_or w open_setpoints ≡ write_points w
+unfolding write_points
+points_else None = refl
+points_else (Some p) = refl
 
 -- and where there are none, all are 0
 pub none_held : HeldSetpoints (write_points None)
