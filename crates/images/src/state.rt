@@ -83,6 +83,7 @@ fn judged(s: &[u8], n: usize) -> Result<(), ImageRefusal>
 }
 
 // A state image is refused for its bytes. Whether the state is possible is asked by possible::is_possible.
+#[tactic(auto, using(crate::proofs::Tests::state_bytes))]
 pub fn bytes_refusal(s: &[u8]) -> Result<(), ImageRefusal>
     ensures { bytes_number result ≡ bytes_refusal s.now }
 {
@@ -90,6 +91,7 @@ pub fn bytes_refusal(s: &[u8]) -> Result<(), ImageRefusal>
 }
 
 // The same of an earlier image, which has bytes of 0 in place of those it lacks.
+#[tactic(auto, using(crate::proofs::Tests::earlier_bytes))]
 pub fn earlier_refusal(e: &[u8]) -> Result<(), ImageRefusal>
     ensures { bytes_number result ≡ earlier_refusal e.now }
 {

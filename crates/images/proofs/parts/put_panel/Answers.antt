@@ -10,4 +10,4 @@ use Rattle.images.proofs.parts.put_panel.Goals as goal
 pub returns-clause-state : goal.returns-clause-state
 unfolding put_all
 returns-clause-state c =
-    turns_panel c.args.p  _ _ (grind (arith, put_here))
+    turns_panel c.args.p _ _ (grind (arith, put_here))
