@@ -1,6 +1,6 @@
 -- A buffer of an image's own length, one of an earlier image's, and one of any other. Assumes nothing.
 use Rattle.std.specs.Prelude.{Option, ℕ}
-use Prim.Native.Nat.{ℕ, ◌+◌, ◌≤◌, ◌<◌}
+use Prim.Native.Nat.{ℕ, zero, suc, ◌+◌, ◌*◌, ◌≤◌, ◌<◌}
 use native.Mathlib.Omega.{arith}
 use mathlib.Core.Path.{◌≡◌, refl, sym, ap, ◌∙◌}
 use mathlib.Core.List.{List, []}
@@ -13,7 +13,7 @@ use Rattle.types.specs.declared.stages.Setpoints.{Setpoints}
 use Rattle.types.specs.declared.machine.State.{State}
 use Rattle.outline.specs.Settings.{settings_of}
 use Rattle.outline.proofs.Parts.{clash}
-use Rattle.places.specs.Places.{Place, put_all}
+use Rattle.places.specs.Places.{Place, be_at, put_all}
 use Rattle.places.proofs.Numbers.{pad_get}
 use Rattle.images.specs.StateImage.{state_length, earlier_length, grown_of, state_at}
 use Rattle.images.specs.GivenImage.{given_length, given_at}
@@ -38,6 +38,12 @@ module _ (l : List ℕ) where
   pub of_short : length l < earlier_length → bytes_from l ≡ []
   unfolding bytes_from
   of_short h = simp (lt-leb earlier_length (length l) h)
+
+-- nothing stands where there is no byte
+pub be_none : (n at : ℕ) → be_at n [] at ≡ 0
+unfolding be_at
+be_none zero at = refl
+be_none (suc n) at = λ i. be_none n at i * 256 + 0
 
 -- what an image grows to reads as it does
 pub grown_alike : (e : List ℕ) → Alike (grown_of e) e

@@ -16,6 +16,9 @@ use Rattle.types.specs.declared.stages.Judgement.{Judgement}
 use Rattle.types.specs.declared.stages.Judgement.TheVariants as judgement
 use Rattle.outline.specs.Numbers.{stage_number, error_number, judgement_number}
 use Rattle.images.specs.Holds.{HeldSetpoints}
+use Rattle.std.specs.Int.{from_bool}
+use Rattle.std.specs.Option.{is_some, unwrap_or}
+use Rattle.outline.specs.Setpoints.{open_setpoints}
 use Rattle.images.specs.StateImage.{display_number, display_of, stage_of, stage_timer, error_of, judgement_of, back_tag, back_weight, back_of, write_tag, write_points, write_of}
 
 pub flag_back : (b : Bool) → flag_of (flag_tag b) ≡ b
@@ -117,6 +120,16 @@ unfolding back_tag
 back_lt None = omega arith
 back_lt (Some v) = omega arith
 
+pub tag_is : (b : Option ℕ) → from_bool (is_some b) ≡ back_tag b
+unfolding back_tag
+tag_is None = refl
+tag_is (Some v) = refl
+
+pub weight_is : (b : Option ℕ) → unwrap_or b 0 ≡ back_weight b
+unfolding back_weight
+weight_is None = refl
+weight_is (Some v) = refl
+
 -- the setpoints that are written
 pub write_back : (w : Option Setpoints) → write_of (write_tag w) (write_points w) ≡ w
 unfolding write_of write_tag write_points
@@ -127,6 +140,11 @@ pub write_lt : (w : Option Setpoints) → write_tag w < 256
 unfolding write_tag
 write_lt None = omega arith
 write_lt (Some p) = omega arith
+
+pub points_else : (w : Option Setpoints) → unwrap_or w open_setpoints ≡ write_points w
+unfolding write_points
+points_else None = refl
+points_else (Some p) = refl
 
 -- and where there are none, all are 0
 pub none_held : HeldSetpoints (write_points None)

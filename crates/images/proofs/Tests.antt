@@ -1,13 +1,15 @@
 -- A chain of tests that ends early, and what an image is refused for, test by test. Assumes nothing.
-use Rattle.std.specs.Prelude.{ℤ, ℕ}
+use Rattle.std.specs.Prelude.{ℤ, ℕ, Option, None, Some}
+use Rattle.std.specs.Option.{is_some}
+use Rattle.types.specs.declared.stages.Setpoints.{Setpoints}
 use Prim.Native.Nat.{ℕ, ◌+◌, ◌*◌}
-use mathlib.Core.Path.{◌≡◌, refl, sym, ◌∙◌}
-use mathlib.Core.Bool.{Bool, true, false, ◌&&◌, ◌||◌}
+use mathlib.Core.Path.{◌≡◌, refl, sym, ap, ◌∙◌}
+use mathlib.Core.Bool.{Bool, true, false, cond, ◌&&◌, ◌||◌}
 use mathlib.Core.List.{List, [], ◌∷◌}
-use lib.Dec.{leb}
+use lib.Dec.{eqb, leb}
 use lib.ListN.{length}
 use lib.IntN.{pos, nat_abs, ◌+ℤ◌}
-use borrow.Author.Tests.{eq-eqb, ne_eqb}
+use borrow.Author.Tests.{eq-eqb, eqb-true, ne_eqb}
 use Rattle.whole.specs.Ints.{eq_z}
 use Rattle.whole.specs.Chains.{links}
 use Rattle.places.specs.Places.{same_bytes}
@@ -24,6 +26,8 @@ use Rattle.images.specs.StateImage.{state_length, earlier_length, image_of, stat
 use Rattle.images.specs.GivenImage.{given_length, given_image, given_refusal}
 use Rattle.images.specs.Possible.{blank_book, balances, book_possible, stability_possible, weighing_possible, sequence_possible, totals_possible, together_possible, rest_possible, possible}
 use Rattle.images.specs.Images.{bytes_refusal, earlier_refusal}
+use Rattle.images.specs.Buffers.{filled}
+use Rattle.images.proofs.Buffers.{filled_state, filled_earlier}
 
 -- ---- the day book: two tests are asked first, since the others' sums need them
 no : (t : Bool) → (t ≡ true → ⊥) → false ≡ t
@@ -99,6 +103,11 @@ module _ (s : Settings) (st : State) where
       let g = together_possible s st in
       four q p x g ∙ (λ i. sym b i && q && sym w i && p && x && sym t i && sym v i && g)
 
+-- setpoints wait, or none do
+pub write_is : (w : Option Setpoints) → is_some w ≡ is_write w
+write_is None = refl
+write_is (Some p) = refl
+
 -- ---- a settings image
 module _ (l : List ℕ) (g : Given) where
   pub given_length_lem : (length l ≡ given_length → ⊥) → 20 ≡ given_refusal l g
@@ -113,30 +122,26 @@ module _ (l : List ℕ) (g : Given) where
   unfolding given_refusal
   given_good n s = simp (eq-eqb (length l) given_length n, s)
 
--- ---- the bytes of a state image
+-- ---- the bytes of a state image, and of an earlier one: the one test of both, and why it passes
+abbrev pub filled_refusal : ℕ → List ℕ → ℕ
+filled_refusal n l = cond (eqb (length l) n) (cond (same_bytes (image_of (state_at l)) (filled l)) 0 21) 20
+
+by_length : (t : Bool) (a b : ℕ) → (t ≡ true → a ≡ b) → ◌≡◌ {A = ℕ} (cond t a 20) (cond t b 20)
+by_length true a b f = f refl
+by_length false a b f = refl
+
 module _ (l : List ℕ) where
-  pub bytes_length : (length l ≡ state_length → ⊥) → 20 ≡ bytes_refusal l
+  by_bytes : (m : List ℕ) → filled l ≡ m → ◌≡◌ {A = ℕ} (cond (same_bytes (image_of (state_at l)) (filled l)) 0 21) (cond (same_bytes (image_of (state_at l)) m) 0 21)
+  by_bytes m e = ap (λ (x : List ℕ). cond (same_bytes (image_of (state_at l)) x) 0 21) e
+
+  pub state_bytes : filled_refusal state_length l ≡ bytes_refusal l
   unfolding bytes_refusal
-  bytes_length n = simp (ne_eqb (length l) state_length n)
+  state_bytes = by_length (eqb (length l) state_length) _ _ (λ n. by_bytes l (filled_state l (eqb-true (length l) state_length n)))
 
-  pub bytes_other : length l ≡ state_length → same_bytes (image_of (state_at l)) l ≡ false → 21 ≡ bytes_refusal l
-  unfolding bytes_refusal
-  bytes_other n s = simp (eq-eqb (length l) state_length n, s)
-
-  pub bytes_same : length l ≡ state_length → same_bytes (image_of (state_at l)) l ≡ true → 0 ≡ bytes_refusal l
-  unfolding bytes_refusal
-  bytes_same n s = simp (eq-eqb (length l) state_length n, s)
-
--- ---- and of an earlier one
-module _ (e : List ℕ) where
-  pub earlier_length_lem : (length e ≡ earlier_length → ⊥) → 20 ≡ earlier_refusal e
+  pub earlier_bytes : filled_refusal earlier_length l ≡ earlier_refusal l
   unfolding earlier_refusal
-  earlier_length_lem n = simp (ne_eqb (length e) earlier_length n)
+  earlier_bytes = by_length (eqb (length l) earlier_length) _ _ (λ n. by_bytes (grown_of l) (filled_earlier l (eqb-true (length l) earlier_length n)))
 
-  pub earlier_other : length e ≡ earlier_length → same_bytes (image_of (state_at e)) (grown_of e) ≡ false → 21 ≡ earlier_refusal e
+  pub earlier_same : length l ≡ earlier_length → same_bytes (image_of (state_at l)) (grown_of l) ≡ true → 0 ≡ earlier_refusal l
   unfolding earlier_refusal
-  earlier_other n s = simp (eq-eqb (length e) earlier_length n, s)
-
-  pub earlier_same : length e ≡ earlier_length → same_bytes (image_of (state_at e)) (grown_of e) ≡ true → 0 ≡ earlier_refusal e
-  unfolding earlier_refusal
-  earlier_same n s = simp (eq-eqb (length e) earlier_length n, s)
+  earlier_same n s = simp (eq-eqb (length l) earlier_length n, s)

@@ -108,7 +108,7 @@ module _ (st : State) (h : HeldState st) where
           judgement = judgement_back st.sequence.judgement i;
         };
         totals = record { total = st.totals.total; count = st.totals.count; back = back_back st.totals.back i };
-        waiting = record { write = write_back st.waiting i };
+        waiting = write_back st.waiting i;
       })
 
 pub image_length : (st : State) → length (image_of st) ≡ state_length

@@ -1,6 +1,7 @@
 pub mod StateImage
 pub mod GivenImage
 pub mod Possible
+pub mod Refusals
 pub mod Images
 pub mod Buffers
 pub mod Holds

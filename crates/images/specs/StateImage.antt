@@ -1,6 +1,6 @@
 -- The state image: 288 bytes, as docs/IMAGES.md has them. Each part of the state has a table of rows, a place and a count of bytes for each
 -- field; beside it stand the numbers that the part has for its rows, and the part that numbers make. A byte that no row has is 0.
-use Rattle.std.specs.Prelude.{ℕ, ◌-◌, List, [], ◌∷◌, ◌++◌, cond, eqb, get_or, drop, replicate, Option, None, Some}
+use Rattle.std.specs.Prelude.{ℕ, ◌+◌, ◌-◌, List, [], ◌∷◌, ◌++◌, cond, eqb, get_or, drop, replicate, Option, None, Some}
 use Rattle.std.specs.Int.{w32, w64}
 use Rattle.places.specs.Places.{Place, row, get_all, put_all, signed, coded, flag_of, flag_tag}
 use Rattle.types.specs.declared.daybook.Book.{Book}
@@ -167,6 +167,10 @@ abbrev pub panel_of : List ℕ → Panel
 panel_of ns = record { display = display_of (get_or ns 0 0) }
 
 -- ---- setpoints in use: F, FF, P, OP, over, under, near zero
+-- seven numbers of four bytes, one behind the other: so setpoints stand, in use and waiting
+abbrev pub seven_rows : ℕ → List Place
+seven_rows at = row at 4 ∷ row (at + 4) 4 ∷ row (at + 8) 4 ∷ row (at + 12) 4 ∷ row (at + 16) 4 ∷ row (at + 20) 4 ∷ row (at + 24) 4 ∷ []
+
 abbrev pub setpoint_rows : List Place
 setpoint_rows = row 60 4 ∷ row 64 4 ∷ row 68 4 ∷ row 72 4 ∷ row 76 4 ∷ row 80 4 ∷ row 84 4 ∷ []
 

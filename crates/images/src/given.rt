@@ -2,8 +2,9 @@
 ghost use Rattle.std.specs.Prelude.{◌≡◌};
 ghost use Rattle.images.specs.GivenImage.{given_length, given_at, given_in};
 ghost use Rattle.images.specs.Buffers.{bytes_of};
+ghost use Rattle.images.specs.Refusals.{bytes_number};
 
-use numbers::{IMPOSSIBLE, WRONG_LENGTH};
+use crate::refusals::ImageRefusal;
 use types::settings::Given;
 
 // The bytes of a settings image.
@@ -11,6 +12,7 @@ pub(crate) const GIVEN_LENGTH: usize = 128;
 
 // What stands at the places, whatever the bytes are. It asks for the length first, so that the compiler reads a number in one piece; a
 // buffer of another length holds no settings, and reads as numbers that are all 0.
+#[tactic(auto, using(crate::proofs::Buffers::of_other, crate::proofs::Buffers::be_none), unfolding(crate::specs::GivenImage::given_at, places::specs::Places::get_all, places::specs::Places::signed))]
 pub fn given_at(s: &[u8]) -> Given
     ensures { result ≡ given_at (bytes_of given_length s.now) }
 {
@@ -43,70 +45,45 @@ pub fn given_at(s: &[u8]) -> Given
             dischargelimit: 0,
         };
     }
-    let zero = places::i32_at(s, 0);
-    let span = places::i32_at(s, 4);
-    let capacity = places::i32_at(s, 8);
-    let weight = places::i32_at(s, 12);
-    let division = places::i32_at(s, 16);
-    let zeroing = places::i32_at(s, 20);
-    let tracktime = places::i32_at(s, 24);
-    let trackwidth = places::i32_at(s, 28);
-    let allowance = places::i32_at(s, 32);
-    let stabletime = places::i32_at(s, 36);
-    let stablewidth = places::i32_at(s, 40);
-    let mode = places::i32_at(s, 44);
-    let start = places::i32_at(s, 48);
-    let large = places::i32_at(s, 52);
-    let medium = places::i32_at(s, 56);
-    let small = places::i32_at(s, 60);
-    let judge = places::i32_at(s, 64);
-    let flow = places::i32_at(s, 68);
-    let address = places::i32_at(s, 72);
-    let board = places::i32_at(s, 76);
-    let low = places::i32_at(s, 80);
-    let high = places::i32_at(s, 84);
-    let dischargestart = places::i32_at(s, 88);
-    let dischargeend = places::i32_at(s, 92);
-    let dischargelimit = places::i32_at(s, 96);
     Given {
-        zero,
-        span,
-        capacity,
-        weight,
-        division,
-        zeroing,
-        tracktime,
-        trackwidth,
-        allowance,
-        stabletime,
-        stablewidth,
-        mode,
-        start,
-        large,
-        medium,
-        small,
-        judge,
-        flow,
-        address,
-        board,
-        low,
-        high,
-        dischargestart,
-        dischargeend,
-        dischargelimit,
+        zero: places::read(s, 0),
+        span: places::read(s, 4),
+        capacity: places::read(s, 8),
+        weight: places::read(s, 12),
+        division: places::read(s, 16),
+        zeroing: places::read(s, 20),
+        tracktime: places::read(s, 24),
+        trackwidth: places::read(s, 28),
+        allowance: places::read(s, 32),
+        stabletime: places::read(s, 36),
+        stablewidth: places::read(s, 40),
+        mode: places::read(s, 44),
+        start: places::read(s, 48),
+        large: places::read(s, 52),
+        medium: places::read(s, 56),
+        small: places::read(s, 60),
+        judge: places::read(s, 64),
+        flow: places::read(s, 68),
+        address: places::read(s, 72),
+        board: places::read(s, 76),
+        low: places::read(s, 80),
+        high: places::read(s, 84),
+        dischargestart: places::read(s, 88),
+        dischargeend: places::read(s, 92),
+        dischargelimit: places::read(s, 96),
     }
 }
 
-// What a settings image is refused with, or 0: 20 wrong length, 21 an unused byte that is not 0. Any numbers may be given, so that only
-// the bytes behind them are asked for.
-pub fn given_refusal(s: &[u8]) -> u8
-    ensures { result ≡ (given_in s.now).refusal }
+// A settings image is refused for another length, or for an unused byte that is not 0. Any numbers may be given, so that only the bytes
+// behind them are asked for.
+pub fn given_refusal(s: &[u8]) -> Result<(), ImageRefusal>
+    ensures { bytes_number result ≡ (given_in s.now).refusal }
 {
     if s.len() != GIVEN_LENGTH {
-        return WRONG_LENGTH;
+        return Err(ImageRefusal::WrongLength);
     }
     if !places::are_zero(s, 100, 28) {
-        return IMPOSSIBLE;
+        return Err(ImageRefusal::Impossible);
     }
-    0
+    Ok(())
 }

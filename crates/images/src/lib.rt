@@ -10,6 +10,7 @@ pub mod given;
 mod names;
 pub mod parts;
 pub mod possible;
+pub mod refusals;
 pub mod state;
 
 // Figures of images and what images owe. It does nothing: it stands here so that the check's list names the statements, and misses them

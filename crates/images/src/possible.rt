@@ -1,6 +1,6 @@
 // What a state can be, under settings as they are given: the test behind 21, range by range of specs/Possible.antt. A number of the
 // settings counts without its sign; whether the settings are in their own ranges is asked later, and answered with 10.
-ghost use Rattle.std.specs.Prelude.{◌≡◌, ◌+◌, ◌*◌, ◌≤◌, max, leb, nat_abs, ◌+ℤ◌, ◌-ℤ◌};
+ghost use Rattle.std.specs.Prelude.{◌≡◌, ◌+◌, ◌*◌, ◌≤◌, leb, nat_abs, ◌+ℤ◌, ◌-ℤ◌};
 ghost use Rattle.std.specs.Int.{w32};
 ghost use Rattle.places.specs.Places.{be_at, signed};
 ghost use Rattle.whole.specs.Ints.{eq_z};
@@ -10,12 +10,11 @@ ghost use Rattle.images.specs.Possible.{blank_book, book_possible, stability_pos
 ghost use Rattle.images.specs.Possible.{sequence_fits, totals_possible, flow_possible, together_fits, rest_possible};
 ghost use Rattle.images.specs.GivenImage.{given_at};
 ghost use Rattle.images.specs.Buffers.{is_image, possible_in};
-ghost use Rattle.outline.specs.Kinds.{is_write};
 ghost use Rattle.outline.specs.Ranges.{write_fits};
 ghost use Rattle.outline.specs.Zero.{tracking_on};
 
 use crate::given::GIVEN_LENGTH;
-use crate::names::{back_tag, back_weight, stage_timer};
+use crate::names::stage_timer;
 use crate::parts::{
     EARLIER_LENGTH, STATE_LENGTH, book_at, sequence_at, setpoints_at, stability_at, totals_at,
     waiting_at, weighing_at,
@@ -27,7 +26,6 @@ use types::daybook::Book;
 use types::settings::Mode;
 use types::stages::{Sequence, Setpoints, Totals};
 use types::weight::{Stability, Weighing};
-use whole::{magnitude, wide};
 
 const RAW_LIMIT: u32 = 4_000_000;
 
@@ -41,62 +39,45 @@ const TOTAL_LIMIT: u64 = 99_999_999;
 const BATCH_LIMIT: u32 = 99_999_999;
 
 // Where the settings that bound a state stand in their image.
-const CAPACITY: u32 = 8;
+const CAPACITY: usize = 8;
 
-const DIVISION: u32 = 16;
+const DIVISION: usize = 16;
 
-const ZEROING: u32 = 20;
+const ZEROING: usize = 20;
 
-const TRACK_TIME: u32 = 24;
+const TRACK_TIME: usize = 24;
 
-const TRACK_WIDTH: u32 = 28;
+const TRACK_WIDTH: usize = 28;
 
-const ALLOWANCE: u32 = 32;
+const ALLOWANCE: usize = 32;
 
-const STABLE_TIME: u32 = 36;
+const STABLE_TIME: usize = 36;
 
-const MODE: u32 = 44;
+const MODE: usize = 44;
 
-const START: u32 = 48;
+const START: usize = 48;
 
-const LARGE: u32 = 52;
+const LARGE: usize = 52;
 
-const MEDIUM: u32 = 56;
+const MEDIUM: usize = 56;
 
-const SMALL: u32 = 60;
+const SMALL: usize = 60;
 
-const JUDGE: u32 = 64;
+const JUDGE: usize = 64;
 
-const FLOW: u32 = 68;
+const FLOW: usize = 68;
 
-const DISCHARGE_START: u32 = 88;
+const DISCHARGE_START: usize = 88;
 
-const DISCHARGE_END: u32 = 92;
+const DISCHARGE_END: usize = 92;
 
-const DISCHARGE_LIMIT: u32 = 96;
-
-// |x|
-fn size(x: i32) -> u32
-    ensures { result ≡ nat_abs x }
-{
-    magnitude(wide(x)) as u32
-}
+const DISCHARGE_LIMIT: usize = 96;
 
 // A number of the settings, at its place in their image g, without its sign.
-fn given(g: &[u8], at: u32) -> u32
+fn given(g: &[u8], at: usize) -> u32
     ensures { result ≡ nat_abs (signed w32 (be_at 4 g.now at)) }
 {
-    size(places::i32_at(g, at))
-}
-
-// n, or 1 where it is 0: so long is a timed stage of n.
-fn at_least_one(n: u32) -> u32
-    ensures { result ≡ max n 1 }
-{
-    if n == 0 {
-        return 1;
-    }
-    n
+    places::read::<i32>(g, at).unsigned_abs()
 }
 
 // Before the first good tick.
@@ -114,7 +95,7 @@ fn is_blank(b: Book) -> bool
 fn is_raw(x: i32) -> bool
     ensures { result ≡ leb (nat_abs x) raw_limit }
 {
-    size(x) <= RAW_LIMIT
+    x.unsigned_abs() <= RAW_LIMIT
 }
 
 // What stands at the places may be any number: a sum is made of two that are found small enough for it. No day's sum is near this.
@@ -123,24 +104,24 @@ const SUM_ROOM: u64 = 1_000_000_000_000_000_000;
 fn sums_fit(refilled: i64, used: i64, ticks: u32) -> bool
     ensures { result ≡ leb (nat_abs refilled + nat_abs used) (rise_limit * ticks) }
 {
-    let r = magnitude(refilled);
+    let r = refilled.unsigned_abs();
     if r > SUM_ROOM {
         return false;
     }
-    let u = magnitude(used);
+    let u = used.unsigned_abs();
     if u > SUM_ROOM {
         return false;
     }
-    r + u <= RISE_LIMIT * (ticks as u64)
+    r + u <= RISE_LIMIT * u64::from(ticks)
 }
 
 fn fall_fits(unbooked: i64, last: i32) -> bool
     ensures { result ≡ leb (nat_abs (unbooked +ℤ last)) raw_limit }
 {
-    if magnitude(unbooked) > SUM_ROOM {
+    if unbooked.unsigned_abs() > SUM_ROOM {
         return false;
     }
-    magnitude(unbooked + (last as i64)) <= (RAW_LIMIT as u64)
+    (unbooked + i64::from(last)).unsigned_abs() <= u64::from(RAW_LIMIT)
 }
 
 // Of sums that fit.
@@ -149,9 +130,10 @@ fn is_balanced(opening: i32, refilled: i64, used: i64, unbooked: i64, last: i32)
     requires unbooked_bound { nat_abs unbooked ≤ 1000000000000000000 }
     ensures { result ≡ eq_z (opening +ℤ refilled -ℤ used -ℤ unbooked) last }
 {
-    (opening as i64) + refilled - used - unbooked == (last as i64)
+    i64::from(opening) + refilled - used - unbooked == i64::from(last)
 }
 
+#[tactic(auto, using(crate::proofs::Tests::book_sums, crate::proofs::Tests::book_fall, crate::proofs::Tests::book_rest))]
 fn is_book(b: Book) -> bool
     ensures { result ≡ book_possible b }
 {
@@ -169,97 +151,98 @@ fn is_book(b: Book) -> bool
         & is_balanced(b.opening, b.refilled, b.used, b.unbooked, b.last)
 }
 
+#[tactic(auto, unfolding(crate::specs::Possible::stability_possible, outline::specs::Settings::settings_of, crate::specs::GivenImage::given_at, places::specs::Places::get_all))]
 fn is_stability(g: &[u8], q: Stability) -> bool
     ensures { result ≡ stability_possible (settings_of (given_at g.now)).steadiness q }
 {
-    ((q.run as u32) <= given(g, STABLE_TIME)) & (q.good | (q.run == 0))
+    (u32::from(q.run) <= given(g, STABLE_TIME)) & (q.good | (q.run == 0))
 }
 
+#[tactic(auto, unfolding(outline::specs::Settings::settings_of, crate::specs::GivenImage::given_at, places::specs::Places::get_all))]
 fn is_tracking(g: &[u8]) -> bool
     ensures { result ≡ tracking_on (settings_of (given_at g.now)).tracking }
 {
     (0 < given(g, TRACK_TIME)) & (0 < given(g, TRACK_WIDTH))
 }
 
+#[tactic(auto, unfolding(crate::specs::Possible::weighing_possible, outline::specs::Settings::settings_of, crate::specs::GivenImage::given_at, places::specs::Places::get_all))]
 fn is_weighing(g: &[u8], w: Weighing) -> bool
     ensures { result ≡ weighing_possible (settings_of (given_at g.now)).range (settings_of (given_at g.now)).tracking w }
 {
-    let capacity = given(g, CAPACITY) as u64;
-    let zeroes = capacity * (given(g, ZEROING) as u64) / 10;
-    let tares = capacity * (given(g, DIVISION) as u64);
-    (magnitude(wide(w.zero)) <= zeroes)
-        & (magnitude(whole::difference(w.zero, w.tracked)) <= zeroes)
-        & (size(w.tracked) <= given(g, ALLOWANCE))
-        & ((w.counter as u32) < at_least_one(given(g, TRACK_TIME)))
+    let capacity = u64::from(given(g, CAPACITY));
+    let zeroes = capacity * u64::from(given(g, ZEROING)) / 10;
+    let tares = capacity * u64::from(given(g, DIVISION));
+    (u64::from(w.zero.unsigned_abs()) <= zeroes)
+        & (u64::from(w.zero.abs_diff(w.tracked)) <= zeroes)
+        & (w.tracked.unsigned_abs() <= given(g, ALLOWANCE))
+        & (u32::from(w.counter) < given(g, TRACK_TIME).max(1))
         & (0 <= w.tare)
-        & (magnitude(wide(w.tare)) <= tares)
+        & (u64::from(w.tare.unsigned_abs()) <= tares)
         & (is_tracking(g) | ((w.counter == 0) & (w.tracked == 0)))
 }
 
 // The setting of a timed stage, by its number; 0 for any other.
+#[tactic(auto, unfolding(crate::specs::Possible::time_of, outline::specs::Settings::settings_of, crate::specs::GivenImage::given_at, places::specs::Places::get_all))]
 fn time_of(g: &[u8], n: u8) -> u32
     ensures { result ≡ time_of (settings_of (given_at g.now)).batching n }
 {
     match n {
-        3 => return given(g, START),
-        4 => return given(g, LARGE),
-        6 => return given(g, MEDIUM),
-        8 => return given(g, SMALL),
-        10 => return given(g, JUDGE),
-        14 => return given(g, DISCHARGE_START),
-        16 => return given(g, DISCHARGE_END),
-        _ => return 0,
+        3 => given(g, START),
+        4 => given(g, LARGE),
+        6 => given(g, MEDIUM),
+        8 => given(g, SMALL),
+        10 => given(g, JUDGE),
+        14 => given(g, DISCHARGE_START),
+        16 => given(g, DISCHARGE_END),
+        _ => 0,
     }
 }
 
 // The most that the clock of a stage shows, by its number; 0 where none runs.
+#[tactic(auto, unfolding(crate::specs::Possible::clock_limit, outline::specs::Settings::settings_of, crate::specs::GivenImage::given_at, places::specs::Places::get_all))]
 fn clock_limit(g: &[u8], n: u8) -> u32
     ensures { result ≡ clock_limit (settings_of (given_at g.now)).batching n }
 {
-    if n < 4 {
-        return 0;
+    match n {
+        4..=11 => given(g, FLOW),
+        15.. => given(g, DISCHARGE_LIMIT),
+        _ => 0,
     }
-    if n <= 11 {
-        return given(g, FLOW);
-    }
-    if 15 <= n {
-        return given(g, DISCHARGE_LIMIT);
-    }
-    0
 }
 
 // By the stage's number n, its timer t, the error's number e and the judgement's j.
+#[tactic(auto, unfolding(crate::specs::Possible::sequence_fits, outline::specs::Settings::settings_of, crate::specs::GivenImage::given_at, places::specs::Places::get_all))]
 fn is_sequence(g: &[u8], n: u8, t: u16, clock: u16, e: u8, j: u8) -> bool
     ensures { result ≡ sequence_fits (settings_of (given_at g.now)).batching n t clock e j }
 {
-    ((t as u32) < at_least_one(time_of(g, n)))
-        & ((clock as u32) <= clock_limit(g, n))
+    (u32::from(t) < time_of(g, n).max(1))
+        & (u32::from(clock) <= clock_limit(g, n))
         & ((n == 0) | (e == 0))
         & ((n == 0) | (14 <= n) | (j == 0))
-        & ((places::i32_at(g, MODE) == 1) | !((14 <= n) | (e == 7) | (e == 8)))
+        & ((places::read::<i32>(g, MODE) == 1) | !((14 <= n) | (e == 7) | (e == 8)))
 }
 
+#[tactic(auto, unfolding(crate::specs::Possible::totals_possible, crate::specs::StateImage::back_tag, crate::specs::StateImage::back_weight))]
 fn is_totals(t: Totals) -> bool
     ensures { result ≡ totals_possible t }
 {
-    let back = t.back;
     (t.total <= TOTAL_LIMIT)
         & (t.count <= BATCH_LIMIT)
-        & (back_weight(back) <= t.total)
-        & ((back_tag(back) as u32) <= t.count)
+        & (t.back.unwrap_or(0) <= t.total)
+        & (u32::from(t.back.is_some()) <= t.count)
 }
 
 // The flow stages that a batch with these setpoints has, by the stage's number.
+#[tactic(auto, unfolding(crate::specs::Possible::flow_possible))]
 fn flow_fits(m: Mode, p: Setpoints, n: u8) -> bool
     ensures { result ≡ flow_possible m p n }
 {
-    let target = p.target;
-    let preliminary = p.preliminary;
-    ((n < 4) | (11 < n) | (target != 0))
+    ((n < 4) | (11 < n) | (p.target != 0))
         & (!((n == 4) | (n == 5)) | !has_no_large(m, p))
-        & (!((n == 6) | (n == 7)) | (preliminary != 0))
+        & (!((n == 6) | (n == 7)) | (p.preliminary != 0))
 }
 
+#[tactic(auto, unfolding(crate::specs::Possible::together_fits))]
 fn is_together(
     m: Mode,
     p: Setpoints,
@@ -278,20 +261,11 @@ fn is_together(
         & flow_fits(m, p, n)
 }
 
+#[tactic(auto, unfolding(outline::specs::Settings::settings_of, crate::specs::GivenImage::given_at, places::specs::Places::get_all))]
 fn given_mode(g: &[u8]) -> Mode
     ensures { result ≡ (settings_of (given_at g.now)).batching.mode }
 {
-    mode_of(places::i32_at(g, MODE))
-}
-
-// There are setpoints in it.
-fn has_points(w: Option<Setpoints>) -> bool
-    ensures { result ≡ is_write w }
-{
-    match w {
-        None => false,
-        Some(_) => true,
-    }
+    mode_of(places::read(g, MODE))
 }
 
 // What waits keeps the rules of 6.
@@ -299,12 +273,13 @@ fn write_fits(g: &[u8], w: Option<Setpoints>) -> bool
     ensures { result ≡ write_fits (settings_of (given_at g.now)).batching.mode w }
 {
     match w {
-        None => return true,
-        Some(p) => return setpoints_fit(given_mode(g), p),
+        None => true,
+        Some(p) => setpoints_fit(given_mode(g), p),
     }
 }
 
 // What is left to ask after the day book, the totals, zero and tare, and what waits: the other parts, and how all go together.
+#[tactic(auto, unfolding(crate::specs::Possible::rest_possible))]
 fn is_rest(
     g: &[u8],
     q: Stability,
@@ -317,13 +292,10 @@ fn is_rest(
     ensures { result ≡ rest_possible (settings_of (given_at g.now)) q p x begun counter waits }
 {
     let mode = given_mode(g);
-    let stage = x.stage;
-    let error = x.error;
-    let judgement = x.judgement;
-    let n = stage_number(stage);
-    let t = stage_timer(stage);
-    let e = error_number(error);
-    let j = judgement_number(judgement);
+    let n = stage_number(x.stage);
+    let t = stage_timer(x.stage);
+    let e = error_number(x.error);
+    let j = judgement_number(x.judgement);
     is_stability(g, q)
         & setpoints_fit(mode, p)
         & is_sequence(g, n, t, x.clock, e, j)
@@ -361,21 +333,16 @@ pub fn is_possible(g: &[u8], s: &[u8]) -> bool
         return false;
     }
     let waiting = waiting_at(s);
-    let write = waiting.write;
-    if !write_fits(g, write) {
+    if !write_fits(g, waiting) {
         return false;
     }
-    let waits = has_points(write);
-    let stability = stability_at(s);
-    let setpoints = setpoints_at(s);
-    let sequence = sequence_at(s);
     is_rest(
         g,
-        stability,
-        setpoints,
-        sequence,
+        stability_at(s),
+        setpoints_at(s),
+        sequence_at(s),
         book.begun,
         weighing.counter,
-        waits,
+        waiting.is_some(),
     )
 }

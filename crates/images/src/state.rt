@@ -1,14 +1,15 @@
 // The state image, judged by its bytes. Its parts are read and written in parts.rt, its ranges asked in possible.rt.
-ghost use Rattle.std.specs.Prelude.{◌≡◌, leb, length, true};
+ghost use Rattle.std.specs.Prelude.{◌≡◌, cond, eqb, leb, length, true};
 ghost use Rattle.places.specs.Places.{same_bytes, get_all, gaps, zeros_in};
 ghost use Rattle.images.specs.StateImage.{state_length, state_rows, state_numbers, image_of, state_at};
 ghost use Rattle.images.specs.Buffers.{is_image, filled};
+ghost use Rattle.images.specs.Refusals.{bytes_number};
 ghost use Rattle.images.specs.Images.{bytes_refusal, earlier_refusal};
 
-use crate::names::{back_tag, back_weight, stage_timer};
-use crate::parts;
-use crate::parts::{EARLIER_LENGTH, STATE_LENGTH};
-use numbers::{IMPOSSIBLE, WRONG_LENGTH, error_number, judgement_number, stage_number};
+use crate::names::stage_timer;
+use crate::parts::{EARLIER_LENGTH, STATE_LENGTH, sequence_at, totals_at};
+use crate::refusals::ImageRefusal;
+use numbers::{error_number, judgement_number, stage_number};
 use types::stages::{Sequence, Totals};
 
 // 0 or 1: no, or yes.
@@ -20,30 +21,28 @@ fn is_flag(n: u8) -> bool
 
 // Whether the state that was read has the numbers at its places again: a flag is 0 or 1, a name's number names it, and a value without use
 // is 0. Every other number is read as it stands.
+#[tactic(auto, using(crate::proofs::Read::whole))]
 fn is_read_whole(s: &[u8], q: Sequence, t: Totals) -> bool
     requires q_value { q ≡ (state_at s.now).sequence }
     requires t_value { t ≡ (state_at s.now).totals }
     ensures { result ≡ same_bytes (state_numbers (state_at s.now)) (get_all state_rows s.now) }
 {
-    let stage = q.stage;
-    let error = q.error;
-    let judgement = q.judgement;
-    let back = t.back;
-    is_flag(places::u8_at(s, 36))
-        & is_flag(places::u8_at(s, 37))
-        & is_flag(places::u8_at(s, 40))
-        & is_flag(places::u8_at(s, 58))
-        & (stage_number(stage) == places::u8_at(s, 88))
-        & (stage_timer(stage) == places::u16_at(s, 90))
-        & (error_number(error) == places::u8_at(s, 94))
-        & (judgement_number(judgement) == places::u8_at(s, 95))
-        & (back_tag(back) == places::u8_at(s, 108))
-        & (back_weight(back) == places::u64_at(s, 112))
-        & is_flag(places::u8_at(s, 256))
-        & ((places::u8_at(s, 256) == 1) | places::are_zero(s, 260, 28))
+    is_flag(places::read(s, 36))
+        & is_flag(places::read(s, 37))
+        & is_flag(places::read(s, 40))
+        & is_flag(places::read(s, 58))
+        & (stage_number(q.stage) == places::read::<u8>(s, 88))
+        & (stage_timer(q.stage) == places::read::<u16>(s, 90))
+        & (error_number(q.error) == places::read::<u8>(s, 94))
+        & (judgement_number(q.judgement) == places::read::<u8>(s, 95))
+        & (u8::from(t.back.is_some()) == places::read::<u8>(s, 108))
+        & (t.back.unwrap_or(0) == places::read::<u64>(s, 112))
+        & is_flag(places::read(s, 256))
+        & (places::read::<bool>(s, 256) | places::are_zero(s, 260, 28))
 }
 
 // The bytes that stand in no place are 0.
+#[tactic(auto, using(crate::proofs::Read::unused_state))]
 fn is_unused_zero(s: &[u8]) -> bool
     ensures { result ≡ zeros_in (gaps 0 state_length state_rows) s.now }
 {
@@ -66,37 +65,35 @@ fn is_written(s: &[u8]) -> bool
     if s.len() < EARLIER_LENGTH {
         return false;
     }
-    let sequence = parts::sequence_at(s);
-    let totals = parts::totals_at(s);
-    if !is_read_whole(s, sequence, totals) {
-        return false;
-    }
-    is_unused_zero(s)
+    is_read_whole(s, sequence_at(s), totals_at(s)) && is_unused_zero(s)
 }
 
-// What a state image is refused with for its bytes, or 0: 20 wrong length, 21 bytes that its state, written again, would not give. Whether
-// the state is possible is asked by possible::is_possible.
-pub fn bytes_refusal(s: &[u8]) -> u8
-    ensures { result ≡ bytes_refusal s.now }
+// Of a buffer that must have n bytes: the length, and the bytes that its state, written again, would give.
+fn judged(s: &[u8], n: usize) -> Result<(), ImageRefusal>
+    requires { is_image n ≡ true }
+    ensures { bytes_number result ≡ cond (eqb (length s.now) n) (cond (same_bytes (image_of (state_at s.now)) (filled s.now)) 0 21) 20 }
 {
-    if s.len() != STATE_LENGTH {
-        return WRONG_LENGTH;
+    if s.len() != n {
+        return Err(ImageRefusal::WrongLength);
     }
-    if is_written(s) {
-        return 0;
+    if !is_written(s) {
+        return Err(ImageRefusal::Impossible);
     }
-    IMPOSSIBLE
+    Ok(())
+}
+
+// A state image is refused for its bytes. Whether the state is possible is asked by possible::is_possible.
+#[tactic(auto, using(crate::proofs::Tests::state_bytes))]
+pub fn bytes_refusal(s: &[u8]) -> Result<(), ImageRefusal>
+    ensures { bytes_number result ≡ bytes_refusal s.now }
+{
+    judged(s, STATE_LENGTH)
 }
 
 // The same of an earlier image, which has bytes of 0 in place of those it lacks.
-pub fn earlier_refusal(e: &[u8]) -> u8
-    ensures { result ≡ earlier_refusal e.now }
+#[tactic(auto, using(crate::proofs::Tests::earlier_bytes))]
+pub fn earlier_refusal(e: &[u8]) -> Result<(), ImageRefusal>
+    ensures { bytes_number result ≡ earlier_refusal e.now }
 {
-    if e.len() != EARLIER_LENGTH {
-        return WRONG_LENGTH;
-    }
-    if is_written(e) {
-        return 0;
-    }
-    IMPOSSIBLE
+    judged(e, EARLIER_LENGTH)
 }

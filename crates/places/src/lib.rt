@@ -2,222 +2,226 @@
 // past the end reads as 0 and is not written, so that nothing is asked of a caller.
 #![tactic(auto)]
 
-ghost use Rattle.std.specs.Prelude.{◌≡◌, min, length, get_or, set, replicate};
+ghost use Rattle.std.specs.Prelude.{◌≡◌, ℕ, ◌+◌, length, get_or, set, replicate, true, ◌&&◌, eqb};
+ghost use Rattle.std.specs.List.{fold};
 ghost use Rattle.std.specs.Int.{w32, w64};
 ghost use Rattle.places.specs.Places.{be_at, put_be, signed, coded, flag_of, flag_tag, zeros_at};
 
-// The byte at `at`, or 0 past the end.
-fn byte_at(s: &[u8], at: usize) -> u8
-    ensures { result ≡ get_or s.now at 0 }
+// The byte i places on from `at`, or 0 past the end. No buffer has a byte at usize::MAX: a sum that stops there is past the end too.
+fn byte(s: &[u8], at: usize, i: usize) -> u8
+    ensures { result ≡ get_or s.now (at + i) 0 }
 {
-    if at < s.len() { s[at] } else { 0 }
+    s.get(at.saturating_add(i)).copied().unwrap_or(0)
 }
 
-fn as_u32(b: u8) -> u32
-    ensures { result ≡ b }
+#[tactic(auto, using(std::proofs::lemmas::List::set_past))]
+fn put_byte(s: &mut [u8], at: usize, i: usize, b: u8)
+    ensures { s.new ≡ set s.old (at + i) b }
 {
-    b as u32
-}
-
-fn as_u16(b: u8) -> u16
-    ensures { result ≡ b }
-{
-    b as u16
-}
-
-pub fn u8_at(s: &[u8], at: u16) -> u8
-    ensures { result ≡ be_at 1 s.now at }
-{
-    byte_at(s, at as usize)
-}
-
-pub fn u16_at(s: &[u8], at: u16) -> u16
-    ensures { result ≡ be_at 2 s.now at }
-{
-    let a = at as usize;
-    let b0 = byte_at(s, a);
-    let b1 = byte_at(s, a + 1);
-    as_u16(b0) * 256 + as_u16(b1)
-}
-
-pub fn u32_at(s: &[u8], at: u32) -> u32
-    ensures { result ≡ be_at 4 s.now at }
-{
-    let a = at as usize;
-    let b0 = byte_at(s, a);
-    let b1 = byte_at(s, a + 1);
-    let b2 = byte_at(s, a + 2);
-    let b3 = byte_at(s, a + 3);
-    ((as_u32(b0) * 256 + as_u32(b1)) * 256 + as_u32(b2)) * 256 + as_u32(b3)
-}
-
-pub fn u64_at(s: &[u8], at: u16) -> u64
-    ensures { result ≡ be_at 8 s.now at }
-{
-    let a = at as u32;
-    let h = u32_at(s, a);
-    let l = u32_at(s, a + 4);
-    (h as u64) * 4294967296 + (l as u64)
-}
-
-fn to_i32(u: u32) -> i32
-    ensures { result ≡ signed w32 u }
-{
-    if u < 2147483648 {
-        u as i32
-    } else {
-        -1 - ((4294967295 - u) as i32)
+    let k = at.saturating_add(i);
+    if k < s.len() {
+        s[k] = b;
     }
 }
 
-fn to_i64(u: u64) -> i64
-    ensures { result ≡ signed w64 u }
-{
-    if u < 9223372036854775808 {
-        u as i64
-    } else {
-        -1 - ((18446744073709551615 - u) as i64)
+// What can stand at a place: in so many bytes, as the number that `number_of` says; a number there is read as `read_as` says, total.
+pub trait Placed: Copy {
+    ghost bytes: { ℕ };
+
+    ghost number_of: { Self → ℕ };
+
+    ghost read_as: { ℕ → Self };
+
+    fn read_at(s: &[u8], at: usize) -> Self
+        ensures { result ≡ read_as (be_at bytes s.now at) };
+
+    fn put_at(self, s: &mut [u8], at: usize)
+        ensures { s.new ≡ put_be bytes (number_of self) s.old at };
+}
+
+#[tactic(auto, unfolding(crate::specs::Places::be_at, crate::specs::Places::put_be))]
+impl Placed for u8 {
+    ghost bytes = { 1 };
+
+    ghost number_of = { λ v. v };
+
+    ghost read_as = { λ n. n };
+
+    fn read_at(s: &[u8], at: usize) -> u8 {
+        byte(s, at, 0)
+    }
+
+    fn put_at(self, s: &mut [u8], at: usize) {
+        put_byte(s, at, 0, self);
     }
 }
 
-pub fn i32_at(s: &[u8], at: u32) -> i32
-    ensures { result ≡ signed w32 (be_at 4 s.now at) }
-{
-    to_i32(u32_at(s, at))
-}
+#[tactic(auto, unfolding(crate::specs::Places::be_at, crate::specs::Places::put_be))]
+impl Placed for u16 {
+    ghost bytes = { 2 };
 
-pub fn i64_at(s: &[u8], at: u16) -> i64
-    ensures { result ≡ signed w64 (be_at 8 s.now at) }
-{
-    to_i64(u64_at(s, at))
-}
+    ghost number_of = { λ v. v };
 
-fn put_byte(s: &mut [u8], at: usize, b: u8)
-    ensures { s.new ≡ set s.old at b }
-{
-    if at < s.len() {
-        s[at] = b;
+    ghost read_as = { λ n. n };
+
+    fn read_at(s: &[u8], at: usize) -> u16 {
+        u16::from_be_bytes([byte(s, at, 0), byte(s, at, 1)])
+    }
+
+    fn put_at(self, s: &mut [u8], at: usize) {
+        let [high, low] = self.to_be_bytes();
+        put_byte(s, at, 0, high);
+        put_byte(s, at, 1, low);
     }
 }
 
-pub fn put_u8(s: &mut [u8], at: u16, v: u8)
-    ensures { s.new ≡ put_be 1 v s.old at }
-{
-    put_byte(s, at as usize, v);
-}
+#[tactic(auto, unfolding(crate::specs::Places::be_at, crate::specs::Places::put_be))]
+impl Placed for u32 {
+    ghost bytes = { 4 };
 
-pub fn put_u16(s: &mut [u8], at: u16, v: u16)
-    ensures { s.new ≡ put_be 2 v s.old at }
-{
-    let a = at as usize;
-    put_byte(s, a, (v / 256 % 256) as u8);
-    put_byte(s, a + 1, (v % 256) as u8);
-}
+    ghost number_of = { λ v. v };
 
-pub fn put_u32(s: &mut [u8], at: u32, v: u32)
-    ensures { s.new ≡ put_be 4 v s.old at }
-{
-    let a = at as usize;
-    put_byte(s, a, (v / 256 / 256 / 256 % 256) as u8);
-    put_byte(s, a + 1, (v / 256 / 256 % 256) as u8);
-    put_byte(s, a + 2, (v / 256 % 256) as u8);
-    put_byte(s, a + 3, (v % 256) as u8);
-}
+    ghost read_as = { λ n. n };
 
-pub fn put_u64(s: &mut [u8], at: u16, v: u64)
-    ensures { s.new ≡ put_be 8 v s.old at }
-{
-    let a = at as u32;
-    put_u32(s, a, (v / 4294967296) as u32);
-    put_u32(s, a + 4, (v % 4294967296) as u32);
-}
+    fn read_at(s: &[u8], at: usize) -> u32 {
+        let bytes = [
+            byte(s, at, 0),
+            byte(s, at, 1),
+            byte(s, at, 2),
+            byte(s, at, 3),
+        ];
+        u32::from_be_bytes(bytes)
+    }
 
-fn of_i32(v: i32) -> u32
-    ensures { result ≡ coded w32 v }
-{
-    if v < 0 {
-        4294967295 - ((-1 - v) as u32)
-    } else {
-        v as u32
+    fn put_at(self, s: &mut [u8], at: usize) {
+        let [b0, b1, b2, b3] = self.to_be_bytes();
+        put_byte(s, at, 0, b0);
+        put_byte(s, at, 1, b1);
+        put_byte(s, at, 2, b2);
+        put_byte(s, at, 3, b3);
     }
 }
 
-fn of_i64(v: i64) -> u64
-    ensures { result ≡ coded w64 v }
-{
-    if v < 0 {
-        18446744073709551615 - ((-1 - v) as u64)
-    } else {
-        v as u64
+#[tactic(auto, unfolding(crate::specs::Places::be_at, crate::specs::Places::put_be))]
+impl Placed for u64 {
+    ghost bytes = { 8 };
+
+    ghost number_of = { λ v. v };
+
+    ghost read_as = { λ n. n };
+
+    fn read_at(s: &[u8], at: usize) -> u64 {
+        let bytes = [
+            byte(s, at, 0),
+            byte(s, at, 1),
+            byte(s, at, 2),
+            byte(s, at, 3),
+            byte(s, at, 4),
+            byte(s, at, 5),
+            byte(s, at, 6),
+            byte(s, at, 7),
+        ];
+        u64::from_be_bytes(bytes)
+    }
+
+    fn put_at(self, s: &mut [u8], at: usize) {
+        let [b0, b1, b2, b3, b4, b5, b6, b7] = self.to_be_bytes();
+        put_byte(s, at, 0, b0);
+        put_byte(s, at, 1, b1);
+        put_byte(s, at, 2, b2);
+        put_byte(s, at, 3, b3);
+        put_byte(s, at, 4, b4);
+        put_byte(s, at, 5, b5);
+        put_byte(s, at, 6, b6);
+        put_byte(s, at, 7, b7);
     }
 }
 
-pub fn put_i32(s: &mut [u8], at: u32, v: i32)
-    ensures { s.new ≡ put_be 4 (coded w32 v) s.old at }
-{
-    put_u32(s, at, of_i32(v));
-}
+#[tactic(auto, unfolding(crate::specs::Places::signed, crate::specs::Places::coded))]
+impl Placed for i32 {
+    ghost bytes = { 4 };
 
-pub fn put_i64(s: &mut [u8], at: u16, v: i64)
-    ensures { s.new ≡ put_be 8 (coded w64 v) s.old at }
-{
-    put_u64(s, at, of_i64(v));
-}
+    ghost number_of = { coded w32 };
 
-fn flag_tag(b: bool) -> u8
-    ensures { result ≡ flag_tag b }
-{
-    if b {
-        return 1;
+    ghost read_as = { signed w32 };
+
+    fn read_at(s: &[u8], at: usize) -> i32 {
+        u32::read_at(s, at).cast_signed()
     }
-    0
+
+    fn put_at(self, s: &mut [u8], at: usize) {
+        u32::put_at(self.cast_unsigned(), s, at);
+    }
+}
+
+#[tactic(auto, unfolding(crate::specs::Places::signed, crate::specs::Places::coded))]
+impl Placed for i64 {
+    ghost bytes = { 8 };
+
+    ghost number_of = { coded w64 };
+
+    ghost read_as = { signed w64 };
+
+    fn read_at(s: &[u8], at: usize) -> i64 {
+        u64::read_at(s, at).cast_signed()
+    }
+
+    fn put_at(self, s: &mut [u8], at: usize) {
+        u64::put_at(self.cast_unsigned(), s, at);
+    }
 }
 
 // 1 is yes, and any other byte no.
-pub fn flag_at(s: &[u8], at: u16) -> bool
-    ensures { result ≡ flag_of (be_at 1 s.now at) }
-{
-    u8_at(s, at) == 1
+#[tactic(auto, unfolding(crate::specs::Places::flag_of, crate::specs::Places::flag_tag))]
+impl Placed for bool {
+    ghost bytes = { 1 };
+
+    ghost number_of = { flag_tag };
+
+    ghost read_as = { flag_of };
+
+    fn read_at(s: &[u8], at: usize) -> bool {
+        u8::read_at(s, at) == 1
+    }
+
+    fn put_at(self, s: &mut [u8], at: usize) {
+        u8::put_at(u8::from(self), s, at);
+    }
 }
 
-pub fn put_flag(s: &mut [u8], at: u16, b: bool)
-    ensures { s.new ≡ put_be 1 (flag_tag b) s.old at }
+pub fn read<T: Placed>(s: &[u8], at: usize) -> T
+    ensures { result ≡ T.read_as (be_at T.bytes s.now at) }
 {
-    put_u8(s, at, flag_tag(b));
+    T::read_at(s, at)
+}
+
+pub fn put<T: Placed>(s: &mut [u8], at: usize, v: T)
+    ensures { s.new ≡ put_be T.bytes (T.number_of v) s.old at }
+{
+    v.put_at(s, at);
 }
 
 // Every byte 0.
 pub fn clear(s: &mut [u8])
     ensures { s.new ≡ replicate (length s.old) 0 }
 {
-    for i in 0..s.len() {
-        s[i] = 0;
-    }
+    s.fill(0);
 }
 
-fn least(a: usize, b: usize) -> usize
-    ensures { result ≡ min a b }
+// Each byte is looked at, with no way out before the last, so that the compiler compares many at once.
+fn all_zero(s: &[u8]) -> bool
+    ensures { result ≡ fold (λ zero b. zero && eqb b 0) true s.now }
 {
-    if a < b {
-        return a;
-    }
-    b
+    s.iter().fold(true, |zero, b| zero & (*b == 0))
 }
 
-// Whether the n bytes from `at` on are 0. Every one that is there is looked at, with no test of its place, so that the compiler compares
-// many at once.
-pub fn are_zero(s: &[u8], at: u16, n: u16) -> bool
+// Whether the n bytes from `at` on are 0.
+pub fn are_zero(s: &[u8], at: usize, n: usize) -> bool
     ensures { result ≡ zeros_at n at s.now }
 {
-    let a = at as usize;
-    let len = s.len();
-    if len <= a {
-        return true;
+    let end = at.saturating_add(n).min(s.len());
+    match s.get(at..end) {
+        Some(part) => all_zero(part),
+        None => true,
     }
-    let end = least(n as usize, len - a);
-    let mut zero = true;
-    for i in 0..end {
-        zero = zero & (s[a + i] == 0);
-    }
-    zero
 }

@@ -1,0 +1,13 @@
+-- The buffer holds the state made anew, since its bytes are the image written over.
+use Rattle.std.proofs.Common.{rules, arith}
+use Rattle.std.proofs.lemmas.Grind.{common_steps}
+use Rattle.whole.specs.Machine.{sfits_of}
+use Rattle.images.proofs.Buffers.{put_here}
+use Rattle.places.specs.Places.{put_all}
+use Rattle.images.proofs.InPlace.{turns_panel}
+use Rattle.images.proofs.parts.put_panel.Goals as goal
+
+pub returns-clause-state : goal.returns-clause-state
+unfolding put_all
+returns-clause-state c =
+    turns_panel c.args.p _ _ (grind (arith, put_here))
