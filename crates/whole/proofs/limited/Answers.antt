@@ -1,5 +1,5 @@
 -- The clamp, case by case: past the upper end, below the lower one, or between them. Past the greatest i64 no limit stops anything.
-use Rattle.std.proofs.Common.{rules, ◌≡◌, refl, Bool, true, false, sym, ap, ◌∙◌, arith}
+use Rattle.std.proofs.Common.{◌≡◌, refl, Bool, true, false, sym, ◌∙◌, arith}
 use Rattle.std.specs.Prelude.{ℕ, zero, suc, ℤ, pos, neg_ℤ, nat_abs, ◌-ℤ◌, cond, ◌≤◌, ◌<◌, ◌^◌}
 use Rattle.std.specs.Int.{int_max, int_min}
 use Rattle.std.specs.Int.Signed.{lt_z}
@@ -8,7 +8,7 @@ use mir.Val.{SFits, to_z, of_z}
 use Rattle.std.proofs.Math.IntN.{+ℤ_idl}
 use Rattle.std.proofs.Math.Nat as N
 use mir.Facts.{to_z-of_z}
-use Rattle.whole.specs.Ints.{ints, int_elim, linear}
+use Rattle.whole.specs.Ints.{ints, linear}
 use Rattle.whole.specs.Limit.{limit_to, limit_plain, limit_below, limit_above, limit_between}
 use Rattle.whole.specs.Machine.{sfits_of, abs_fits, fits_abs}
 use Rattle.whole.proofs.limited.Goals as goal

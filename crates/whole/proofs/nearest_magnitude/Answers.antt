@@ -1,5 +1,5 @@
 -- The quotient is that of `nearest_half`, and m leaves room for half of d; a step of 0 is answered first.
-use Rattle.std.proofs.Common.{rules, ◌≡◌, sym, ap, ◌∙◌, arith}
+use Rattle.std.proofs.Common.{sym, ap, ◌∙◌, arith}
 use Rattle.whole.specs.Nearest.{nearest_n, nearest_zero, nearest_half}
 use Rattle.whole.proofs.nearest_magnitude.Goals as goal
 
