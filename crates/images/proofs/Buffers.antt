@@ -1,5 +1,9 @@
 -- A buffer of an image's own length, one of an earlier image's, and one of any other. Assumes nothing.
-use Rattle.std.specs.Prelude.{Option, ℕ}
+use Rattle.std.specs.Prelude.{Option, None, Some, ℕ, pos}
+use Rattle.std.specs.Int.{w32, w64}
+use Rattle.std.specs.Bool.{then_some}
+use Rattle.types.specs.declared.weight.Display.TheVariants.{Gross}
+use Rattle.types.specs.declared.stages.Stage.TheVariants.{Idle}
 use Prim.Native.Nat.{ℕ, zero, suc, ◌+◌, ◌*◌, ◌≤◌, ◌<◌}
 use native.Mathlib.Omega.{arith}
 use mathlib.Core.Path.{◌≡◌, refl, sym, ap, ◌∙◌}
@@ -13,9 +17,9 @@ use Rattle.types.specs.declared.stages.Setpoints.{Setpoints}
 use Rattle.types.specs.declared.machine.State.{State}
 use Rattle.outline.specs.Settings.{settings_of}
 use Rattle.outline.proofs.Parts.{clash}
-use Rattle.places.specs.Places.{Place, be_at, put_all}
+use Rattle.places.specs.Places.{Place, be_at, put_all, signed, flag_of}
 use Rattle.places.proofs.Numbers.{pad_get}
-use Rattle.images.specs.StateImage.{state_length, earlier_length, grown_of, state_at}
+use Rattle.images.specs.StateImage.{state_length, earlier_length, grown_of, state_at, display_of, stage_of, error_of, judgement_of, back_of, write_of}
 use Rattle.images.specs.GivenImage.{given_length, given_at}
 use Rattle.images.specs.Possible.{possible}
 use Rattle.images.specs.Buffers.{bytes_of, bytes_from, is_image, filled, put_part, possible_in}
@@ -44,6 +48,62 @@ pub be_none : (n at : ℕ) → be_at n [] at ≡ 0
 unfolding be_at
 be_none zero at = refl
 be_none (suc n) at = λ i. be_none n at i * 256 + 0
+
+-- and so 0, no, or the first name is read there
+pub flag_none : flag_of 0 ≡ false
+unfolding flag_of
+flag_none = refl
+
+pub narrow_none : signed w32 0 ≡ pos 0
+unfolding signed
+narrow_none = refl
+
+pub broad_none : signed w64 0 ≡ pos 0
+unfolding signed
+broad_none = refl
+
+pub display_none : display_of 0 ≡ Gross
+unfolding display_of
+display_none = refl
+
+pub stage_none : (t : ℕ) → stage_of 0 t ≡ Idle
+unfolding stage_of
+stage_none t = refl
+
+pub error_none : error_of 0 ≡ None
+unfolding error_of
+error_none = refl
+
+pub judgement_none : judgement_of 0 ≡ None
+unfolding judgement_of
+judgement_none = refl
+
+pub back_none : (v : ℕ) → back_of 0 v ≡ None
+unfolding back_of
+back_none v = refl
+
+pub write_none : (p : Setpoints) → write_of 0 p ≡ None
+unfolding write_of
+write_none p = refl
+
+-- a value that is there where a flag says so
+pub back_some : (n v : ℕ) → back_of n v ≡ then_some (flag_of n) v
+unfolding back_of flag_of
+back_some n v = go (eqb n 1)
+  where
+    go : (t : Bool) → cond t (Some v) None ≡ then_some t v
+    go true = refl
+    go false = refl
+
+pub write_some : (n : ℕ) (p : Setpoints) → write_of n p ≡ then_some (flag_of n) p
+unfolding write_of flag_of
+write_some n p = go (eqb n 1)
+  where
+    go : (t : Bool) → cond t (Some p) None ≡ then_some t p
+    go true = refl
+    go false = refl
+
+pub ruleset reads = (of_long, of_short, of_length, of_other, be_none, flag_none, narrow_none, broad_none, display_none, stage_none, error_none, judgement_none, back_none, write_none, back_some, write_some)
 
 -- what an image grows to reads as it does
 pub grown_alike : (e : List ℕ) → Alike (grown_of e) e

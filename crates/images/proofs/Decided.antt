@@ -1,5 +1,5 @@
 -- `possible` is the decision of the ranges and the balance: part by part, what is in range passes, and what passes is in range. Assumes nothing.
-use Rattle.std.specs.Prelude.{Option, None, Some, ℤ, ℕ}
+use Rattle.std.specs.Prelude.{Option, None, Some, ℕ}
 use Prim.Native.Nat.{ℕ, ◌+◌, ◌*◌, ◌/◌, ◌≤◌, max}
 use native.Mathlib.Nat.{le-div_iff_mul-le}
 use native.Mathlib.Omega.{arith}
@@ -28,7 +28,6 @@ use Rattle.types.specs.declared.stages.Stage.TheVariants.{Idle, StartDelay, Larg
 use Rattle.types.specs.declared.stages.SequenceError.{SequenceError}
 use Rattle.types.specs.declared.stages.SequenceError.TheVariants as error
 use Rattle.types.specs.declared.stages.Judgement.{Judgement}
-use Rattle.types.specs.declared.stages.Judgement.TheVariants as judgement
 use Rattle.types.specs.declared.stages.Sequence.{Sequence}
 use Rattle.types.specs.declared.stages.Totals.{Totals}
 use Rattle.types.specs.declared.machine.State.{State}

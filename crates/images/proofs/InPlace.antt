@@ -23,7 +23,7 @@ use Rattle.types.specs.declared.machine.State.{State}
 use Rattle.outline.specs.Parts.{with_book, with_stability, with_weighing, with_setpoints, with_waiting, with_sequence, with_totals}
 use Rattle.images.specs.StateImage.{display_number, stage_timer, back_tag, back_weight, write_tag, write_points, state_length, book_rows, book_numbers, stability_rows, stability_numbers, weighing_rows, weighing_numbers, panel_rows, panel_numbers, setpoint_rows, setpoint_numbers, sequence_rows, sequence_numbers, totals_rows, totals_numbers, waiting_rows, waiting_numbers, put_state, image_of, state_at}
 use Rattle.images.specs.Buffers.{put_part}
-use Rattle.images.proofs.Buffers.{put_here}
+use Rattle.images.proofs.Buffers.{put_here, put_nowhere}
 use Rattle.images.proofs.NameLaws.{none_held}
 use Rattle.images.proofs.Trip.{image_state, image_length}
 use Rattle.images.specs.Holds.{HeldBook, HeldWeighing, HeldSetpoints, HeldSequence, HeldTotals, HeldState, Holds, Turns, with_panel}
@@ -34,6 +34,9 @@ holds_length {l} {st} h = ap length (sym h.image) ∙ image_length st
 
 pub holds_state : {l : List ℕ} {st : State} → Holds l st → state_at l ≡ st
 holds_state {l} {st} h = ap state_at (sym h.image) ∙ image_state st h.held
+
+-- what is written: nothing where the buffer has another length
+pub ruleset writes = (put_here, put_nowhere, holds_length)
 
 -- the bytes that a state is written over
 abbrev pub blank : List ℕ

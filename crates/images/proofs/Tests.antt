@@ -1,5 +1,5 @@
 -- A chain of tests that ends early, and what an image is refused for, test by test. Assumes nothing.
-use Rattle.std.specs.Prelude.{ℤ, ℕ, Option, None, Some}
+use Rattle.std.specs.Prelude.{ℕ, Option, None, Some}
 use Rattle.std.specs.Option.{is_some}
 use Rattle.types.specs.declared.stages.Setpoints.{Setpoints}
 use Prim.Native.Nat.{ℕ, ◌+◌, ◌*◌}

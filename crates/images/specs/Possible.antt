@@ -1,6 +1,6 @@
 -- What a state can be: the ranges of its fields (outline's Ranges, reading D112) and the balance of its day, as one Boolean under
 -- settings. A state that is not possible gives 21. Stages, errors and judgements are told by their numbers.
-use Rattle.std.specs.Prelude.{ℕ, ◌+◌, ◌*◌, ◌/◌, max, Bool, true, false, cond, not, ◌&&◌, ◌||◌, eqb, ltb, leb, pos, nat_abs, ◌+ℤ◌, ◌-ℤ◌, ℤ}
+use Rattle.std.specs.Prelude.{ℕ, ◌+◌, ◌*◌, ◌/◌, max, Bool, true, false, cond, not, ◌&&◌, ◌||◌, eqb, ltb, leb, pos, nat_abs, ◌+ℤ◌, ◌-ℤ◌}
 use Rattle.std.specs.Int.Signed.{le_z}
 use Rattle.whole.specs.Ints.{eq_z}
 use Rattle.types.specs.declared.settings.Mode.{Mode}
@@ -45,12 +45,12 @@ book_possible b =
     && balances b
 
 -- ---- stability: at most k, 0 after a bad tick
-unfoldable pub stability_possible : Steadiness → Stability → Bool
+abbrev pub stability_possible : Steadiness → Stability → Bool
 stability_possible rule q = leb q.run rule.time && (q.good || eqb q.run 0)
 
 -- ---- zero and tare: |zero| and |zero - tracked|, the zero last keyed, at most C·p/10; |tracked| at most L; the counter below q, and 0
 -- where q is 0; the tare 0..C·d; tracking that is off neither counts nor moves
-unfoldable pub weighing_possible : Range → Tracking → Weighing → Bool
+abbrev pub weighing_possible : Range → Tracking → Weighing → Bool
 weighing_possible r t w =
     leb (nat_abs w.zero) ((r.capacity * r.zeroing) / 10)
     && leb (nat_abs (w.zero -ℤ w.tracked)) ((r.capacity * r.zeroing) / 10)
@@ -62,7 +62,7 @@ weighing_possible r t w =
 
 -- ---- the sequence
 -- the setting of a timed stage; 0 for any other
-unfoldable pub time_of : Batching → ℕ → ℕ
+abbrev pub time_of : Batching → ℕ → ℕ
 time_of b n =
     cond (eqb n 3) b.start
     (cond (eqb n 4) b.large
@@ -73,7 +73,7 @@ time_of b n =
     (cond (eqb n 16) b.discharge.end 0))))))
 
 -- the limit of the flow clock in 04 to 11, of the discharge's in 15 and 16; 0 where no clock runs
-unfoldable pub clock_limit : Batching → ℕ → ℕ
+abbrev pub clock_limit : Batching → ℕ → ℕ
 clock_limit b n = cond (ltb n 4) 0 (cond (leb n 11) b.flow (cond (leb 15 n) b.discharge.limit 0))
 
 -- 14 to 16, and errors 7 and 8, belong to a discharge
@@ -85,7 +85,7 @@ is_normal mode.Normal = true
 is_normal mode.Loss = false
 
 -- by the stage's number n, the error's e and the judgement's j
-unfoldable pub sequence_fits : Batching → ℕ → ℕ → ℕ → ℕ → ℕ → Bool
+abbrev pub sequence_fits : Batching → ℕ → ℕ → ℕ → ℕ → ℕ → Bool
 sequence_fits b n t clock e j =
     ltb t (max (time_of b n) 1)
     && leb clock (clock_limit b n)
@@ -98,13 +98,13 @@ sequence_possible b q =
     sequence_fits b (stage_number q.stage) (stage_timer q.stage) q.clock (error_number q.error) (judgement_number q.judgement)
 
 -- ---- totals: what can be taken back was booked, so the total is at least its weight, and the count at least 1
-unfoldable pub totals_possible : Totals → Bool
+abbrev pub totals_possible : Totals → Bool
 totals_possible t =
     leb t.total total_limit && leb t.count batch_limit && leb (back_weight t.back) t.total && leb (back_tag t.back) t.count
 
 -- ---- how the parts go together, by the stage's number n
 -- 04 to 11 where F is not 0, 04 and 05 where there is a large flow, 06 and 07 where P is not 0
-unfoldable pub flow_possible : Mode → Setpoints → ℕ → Bool
+abbrev pub flow_possible : Mode → Setpoints → ℕ → Bool
 flow_possible m p n =
     (ltb n 4 || ltb 11 n || not (eqb p.target 0))
     && (not (eqb n 4 || eqb n 5) || not (no_large_flow m p))
@@ -112,7 +112,7 @@ flow_possible m p n =
 
 -- where the last tick was good, there has been a good one; a batch or a discharge goes on after a good tick alone; the tracking counter
 -- is 0 but in stage 00 after a good tick; setpoints wait only outside 00
-unfoldable pub together_fits : Mode → Setpoints → ℕ → Bool → Bool → ℕ → Bool → Bool
+abbrev pub together_fits : Mode → Setpoints → ℕ → Bool → Bool → ℕ → Bool → Bool
 together_fits m p n good begun counter waits =
     (not good || begun) && (eqb n 0 || good) && ((eqb n 0 && good) || eqb counter 0) && (not (eqb n 0) || not waits) && flow_possible m p n
 
@@ -122,7 +122,7 @@ together_possible s st =
     st.weighing.counter (is_write st.waiting)
 
 -- what is left to ask after the day book, the totals, zero and tare, and what waits: the other parts, and how all go together
-unfoldable pub rest_possible : Settings → Stability → Setpoints → Sequence → Bool → ℕ → Bool → Bool
+abbrev pub rest_possible : Settings → Stability → Setpoints → Sequence → Bool → ℕ → Bool → Bool
 rest_possible s q p x begun counter waits =
     stability_possible s.steadiness q
     && setpoints_fit s.batching.mode p

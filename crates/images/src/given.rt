@@ -12,7 +12,7 @@ pub(crate) const GIVEN_LENGTH: usize = 128;
 
 // What stands at the places, whatever the bytes are. It asks for the length first, so that the compiler reads a number in one piece; a
 // buffer of another length holds no settings, and reads as numbers that are all 0.
-#[tactic(auto, using(crate::proofs::Buffers::of_other, crate::proofs::Buffers::be_none), unfolding(crate::specs::GivenImage::given_at, places::specs::Places::get_all, places::specs::Places::signed))]
+#[tactic(auto, using(crate::proofs::Buffers::reads), unfolding(crate::specs::GivenImage::given_at, places::specs::Places::get_all))]
 pub fn given_at(s: &[u8]) -> Given
     ensures { result ≡ given_at (bytes_of given_length s.now) }
 {

@@ -25,7 +25,7 @@ pub const STATE_LENGTH: usize = 288;
 // Those of one before request A5.
 pub(crate) const EARLIER_LENGTH: usize = 256;
 
-#[tactic(auto, using(crate::proofs::Buffers::of_long, crate::proofs::Buffers::of_short, crate::proofs::Buffers::be_none), unfolding(crate::specs::StateImage::state_at, places::specs::Places::get_all, places::specs::Places::signed, places::specs::Places::flag_of))]
+#[tactic(auto, using(crate::proofs::Buffers::reads), unfolding(crate::specs::StateImage::state_at, places::specs::Places::get_all))]
 pub fn book_at(s: &[u8]) -> Book
     ensures { result ≡ (state_at (bytes_from s.now)).book }
 {
@@ -53,7 +53,7 @@ pub fn book_at(s: &[u8]) -> Book
     }
 }
 
-#[tactic(auto, using(crate::proofs::Buffers::put_here, crate::proofs::Buffers::put_nowhere, crate::proofs::InPlace::holds_length), unfolding(places::specs::Places::put_all, places::specs::Places::coded, places::specs::Places::flag_tag))]
+#[tactic(auto, using(crate::proofs::InPlace::writes), unfolding(places::specs::Places::put_all))]
 pub fn put_book(s: &mut [u8], b: Book)
     ensures state { Turns s.old s.new (λ (st : State). with_book st b) }
     ensures bytes { s.new ≡ put_part book_rows (book_numbers b) s.old }
@@ -71,7 +71,7 @@ pub fn put_book(s: &mut [u8], b: Book)
     places::put(s, 37, b.contact);
 }
 
-#[tactic(auto, using(crate::proofs::Buffers::of_long, crate::proofs::Buffers::of_short, crate::proofs::Buffers::be_none), unfolding(crate::specs::StateImage::state_at, places::specs::Places::get_all, places::specs::Places::flag_of))]
+#[tactic(auto, using(crate::proofs::Buffers::reads), unfolding(crate::specs::StateImage::state_at, places::specs::Places::get_all))]
 pub fn stability_at(s: &[u8]) -> Stability
     ensures { result ≡ (state_at (bytes_from s.now)).stability }
 {
@@ -87,7 +87,7 @@ pub fn stability_at(s: &[u8]) -> Stability
     }
 }
 
-#[tactic(auto, using(crate::proofs::Buffers::put_here, crate::proofs::Buffers::put_nowhere, crate::proofs::InPlace::holds_length), unfolding(places::specs::Places::put_all))]
+#[tactic(auto, using(crate::proofs::InPlace::writes), unfolding(places::specs::Places::put_all))]
 pub fn put_stability(s: &mut [u8], q: Stability)
     ensures state { Turns s.old s.new (λ (st : State). with_stability st q) }
     ensures bytes { s.new ≡ put_part stability_rows (stability_numbers q) s.old }
@@ -99,7 +99,7 @@ pub fn put_stability(s: &mut [u8], q: Stability)
     places::put(s, 42, q.run);
 }
 
-#[tactic(auto, using(crate::proofs::Buffers::of_long, crate::proofs::Buffers::of_short, crate::proofs::Buffers::be_none), unfolding(crate::specs::StateImage::state_at, places::specs::Places::get_all, places::specs::Places::signed))]
+#[tactic(auto, using(crate::proofs::Buffers::reads), unfolding(crate::specs::StateImage::state_at, places::specs::Places::get_all))]
 pub fn weighing_at(s: &[u8]) -> Weighing
     ensures { result ≡ (state_at (bytes_from s.now)).weighing }
 {
@@ -119,7 +119,7 @@ pub fn weighing_at(s: &[u8]) -> Weighing
     }
 }
 
-#[tactic(auto, using(crate::proofs::Buffers::put_here, crate::proofs::Buffers::put_nowhere, crate::proofs::InPlace::holds_length), unfolding(places::specs::Places::put_all, places::specs::Places::coded))]
+#[tactic(auto, using(crate::proofs::InPlace::writes), unfolding(places::specs::Places::put_all))]
 pub fn put_weighing(s: &mut [u8], w: Weighing)
     ensures state { Turns s.old s.new (λ (st : State). with_weighing st w) }
     ensures bytes { s.new ≡ put_part weighing_rows (weighing_numbers w) s.old }
@@ -133,7 +133,7 @@ pub fn put_weighing(s: &mut [u8], w: Weighing)
     places::put(s, 56, w.counter);
 }
 
-#[tactic(auto, using(crate::proofs::Buffers::of_long, crate::proofs::Buffers::of_short, crate::proofs::Buffers::be_none), unfolding(crate::specs::StateImage::state_at, places::specs::Places::get_all, crate::specs::StateImage::display_of))]
+#[tactic(auto, using(crate::proofs::Buffers::reads), unfolding(crate::specs::StateImage::state_at, places::specs::Places::get_all))]
 pub fn panel_at(s: &[u8]) -> Panel
     ensures { result ≡ (state_at (bytes_from s.now)).panel }
 {
@@ -147,7 +147,7 @@ pub fn panel_at(s: &[u8]) -> Panel
     }
 }
 
-#[tactic(auto, using(crate::proofs::Buffers::put_here, crate::proofs::Buffers::put_nowhere, crate::proofs::InPlace::holds_length), unfolding(places::specs::Places::put_all))]
+#[tactic(auto, using(crate::proofs::InPlace::writes), unfolding(places::specs::Places::put_all))]
 pub fn put_panel(s: &mut [u8], p: Panel)
     ensures state { Turns s.old s.new (λ (st : State). with_panel st p) }
     ensures bytes { s.new ≡ put_part panel_rows (panel_numbers p) s.old }
@@ -200,7 +200,7 @@ fn put_points(s: &mut [u8], at: usize, p: Setpoints)
     places::put(s, at + 24, p.near);
 }
 
-#[tactic(auto, using(crate::proofs::Buffers::of_long, crate::proofs::Buffers::of_short, crate::proofs::Buffers::be_none), unfolding(crate::specs::StateImage::state_at, places::specs::Places::get_all))]
+#[tactic(auto, using(crate::proofs::Buffers::reads), unfolding(crate::specs::StateImage::state_at, places::specs::Places::get_all))]
 pub fn setpoints_at(s: &[u8]) -> Setpoints
     ensures { result ≡ (state_at (bytes_from s.now)).setpoints }
 {
@@ -210,7 +210,7 @@ pub fn setpoints_at(s: &[u8]) -> Setpoints
     points_at(s, 60)
 }
 
-#[tactic(auto, using(crate::proofs::Buffers::put_here, crate::proofs::Buffers::put_nowhere, crate::proofs::InPlace::holds_length), unfolding(places::specs::Places::put_all))]
+#[tactic(auto, using(crate::proofs::InPlace::writes), unfolding(places::specs::Places::put_all))]
 pub fn put_setpoints(s: &mut [u8], p: Setpoints)
     ensures state { Turns s.old s.new (λ (st : State). with_setpoints st p) }
     ensures bytes { s.new ≡ put_part setpoint_rows (setpoint_numbers p) s.old }
@@ -221,7 +221,7 @@ pub fn put_setpoints(s: &mut [u8], p: Setpoints)
     put_points(s, 60, p);
 }
 
-#[tactic(auto, using(crate::proofs::Buffers::of_long, crate::proofs::Buffers::of_short, crate::proofs::Buffers::be_none), unfolding(crate::specs::StateImage::state_at, places::specs::Places::get_all, crate::specs::StateImage::stage_of, crate::specs::StateImage::error_of, crate::specs::StateImage::judgement_of))]
+#[tactic(auto, using(crate::proofs::Buffers::reads), unfolding(crate::specs::StateImage::state_at, places::specs::Places::get_all))]
 pub fn sequence_at(s: &[u8]) -> Sequence
     ensures { result ≡ (state_at (bytes_from s.now)).sequence }
 {
@@ -241,7 +241,7 @@ pub fn sequence_at(s: &[u8]) -> Sequence
     }
 }
 
-#[tactic(auto, using(crate::proofs::Buffers::put_here, crate::proofs::Buffers::put_nowhere, crate::proofs::InPlace::holds_length), unfolding(places::specs::Places::put_all))]
+#[tactic(auto, using(crate::proofs::InPlace::writes), unfolding(places::specs::Places::put_all))]
 pub fn put_sequence(s: &mut [u8], q: Sequence)
     ensures state { Turns s.old s.new (λ (st : State). with_sequence st q) }
     ensures bytes { s.new ≡ put_part sequence_rows (sequence_numbers q) s.old }
@@ -256,7 +256,7 @@ pub fn put_sequence(s: &mut [u8], q: Sequence)
     places::put(s, 95, judgement_number(q.judgement));
 }
 
-#[tactic(auto, using(crate::proofs::Buffers::of_long, crate::proofs::Buffers::of_short, crate::proofs::Buffers::be_none), unfolding(crate::specs::StateImage::state_at, places::specs::Places::get_all, places::specs::Places::flag_of, crate::specs::StateImage::back_of))]
+#[tactic(auto, using(crate::proofs::Buffers::reads), unfolding(crate::specs::StateImage::state_at, places::specs::Places::get_all))]
 pub fn totals_at(s: &[u8]) -> Totals
     ensures { result ≡ (state_at (bytes_from s.now)).totals }
 {
@@ -274,7 +274,7 @@ pub fn totals_at(s: &[u8]) -> Totals
     }
 }
 
-#[tactic(auto, using(crate::proofs::Buffers::put_here, crate::proofs::Buffers::put_nowhere, crate::proofs::InPlace::holds_length), unfolding(places::specs::Places::put_all, crate::specs::StateImage::back_tag, crate::specs::StateImage::back_weight, places::specs::Places::flag_tag))]
+#[tactic(auto, using(crate::proofs::InPlace::writes), unfolding(places::specs::Places::put_all))]
 pub fn put_totals(s: &mut [u8], t: Totals)
     ensures state { Turns s.old s.new (λ (st : State). with_totals st t) }
     ensures bytes { s.new ≡ put_part totals_rows (totals_numbers t) s.old }
@@ -289,7 +289,7 @@ pub fn put_totals(s: &mut [u8], t: Totals)
 }
 
 // The waiting setpoints stand past the end of an earlier image: none are waiting in it.
-#[tactic(auto, using(crate::proofs::Buffers::of_length, crate::proofs::Buffers::of_other, crate::proofs::Buffers::be_none), unfolding(crate::specs::StateImage::state_at, places::specs::Places::get_all, places::specs::Places::flag_of, crate::specs::StateImage::write_of))]
+#[tactic(auto, using(crate::proofs::Buffers::reads), unfolding(crate::specs::StateImage::state_at, places::specs::Places::get_all))]
 pub fn waiting_at(s: &[u8]) -> Option<Setpoints>
     ensures { result ≡ (state_at (bytes_of state_length s.now)).waiting }
 {
@@ -300,7 +300,7 @@ pub fn waiting_at(s: &[u8]) -> Option<Setpoints>
 }
 
 // What waits, or that nothing does: its numbers are 0 then.
-#[tactic(auto, using(crate::proofs::Buffers::put_here, crate::proofs::Buffers::put_nowhere, crate::proofs::InPlace::holds_length), unfolding(places::specs::Places::put_all, places::specs::Places::flag_tag, crate::specs::StateImage::write_tag, crate::specs::StateImage::write_points))]
+#[tactic(auto, using(crate::proofs::InPlace::writes), unfolding(places::specs::Places::put_all))]
 fn put_write(s: &mut [u8], w: Option<Setpoints>)
     ensures state { Turns s.old s.new (λ (st : State). with_waiting st w) }
     ensures bytes { s.new ≡ put_part waiting_rows (waiting_numbers w) s.old }

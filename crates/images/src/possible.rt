@@ -1,5 +1,7 @@
 // What a state can be, under settings as they are given: the test behind 21, range by range of specs/Possible.antt. A number of the
 // settings counts without its sign; whether the settings are in their own ranges is asked later, and answered with 10.
+#![tactic(auto, unfolding(outline::specs::Settings::settings_of, crate::specs::GivenImage::given_at, places::specs::Places::get_all))]
+
 ghost use Rattle.std.specs.Prelude.{◌≡◌, ◌+◌, ◌*◌, ◌≤◌, leb, nat_abs, ◌+ℤ◌, ◌-ℤ◌};
 ghost use Rattle.std.specs.Int.{w32};
 ghost use Rattle.places.specs.Places.{be_at, signed};
@@ -133,7 +135,7 @@ fn is_balanced(opening: i32, refilled: i64, used: i64, unbooked: i64, last: i32)
     i64::from(opening) + refilled - used - unbooked == i64::from(last)
 }
 
-#[tactic(auto, using(crate::proofs::Tests::book_sums, crate::proofs::Tests::book_fall, crate::proofs::Tests::book_rest))]
+#[tactic(auto, using(crate::proofs::Tests::book_sums, crate::proofs::Tests::book_fall))]
 fn is_book(b: Book) -> bool
     ensures { result ≡ book_possible b }
 {
@@ -151,21 +153,18 @@ fn is_book(b: Book) -> bool
         & is_balanced(b.opening, b.refilled, b.used, b.unbooked, b.last)
 }
 
-#[tactic(auto, unfolding(crate::specs::Possible::stability_possible, outline::specs::Settings::settings_of, crate::specs::GivenImage::given_at, places::specs::Places::get_all))]
 fn is_stability(g: &[u8], q: Stability) -> bool
     ensures { result ≡ stability_possible (settings_of (given_at g.now)).steadiness q }
 {
     (u32::from(q.run) <= given(g, STABLE_TIME)) & (q.good | (q.run == 0))
 }
 
-#[tactic(auto, unfolding(outline::specs::Settings::settings_of, crate::specs::GivenImage::given_at, places::specs::Places::get_all))]
 fn is_tracking(g: &[u8]) -> bool
     ensures { result ≡ tracking_on (settings_of (given_at g.now)).tracking }
 {
     (0 < given(g, TRACK_TIME)) & (0 < given(g, TRACK_WIDTH))
 }
 
-#[tactic(auto, unfolding(crate::specs::Possible::weighing_possible, outline::specs::Settings::settings_of, crate::specs::GivenImage::given_at, places::specs::Places::get_all))]
 fn is_weighing(g: &[u8], w: Weighing) -> bool
     ensures { result ≡ weighing_possible (settings_of (given_at g.now)).range (settings_of (given_at g.now)).tracking w }
 {
@@ -182,7 +181,6 @@ fn is_weighing(g: &[u8], w: Weighing) -> bool
 }
 
 // The setting of a timed stage, by its number; 0 for any other.
-#[tactic(auto, unfolding(crate::specs::Possible::time_of, outline::specs::Settings::settings_of, crate::specs::GivenImage::given_at, places::specs::Places::get_all))]
 fn time_of(g: &[u8], n: u8) -> u32
     ensures { result ≡ time_of (settings_of (given_at g.now)).batching n }
 {
@@ -199,7 +197,6 @@ fn time_of(g: &[u8], n: u8) -> u32
 }
 
 // The most that the clock of a stage shows, by its number; 0 where none runs.
-#[tactic(auto, unfolding(crate::specs::Possible::clock_limit, outline::specs::Settings::settings_of, crate::specs::GivenImage::given_at, places::specs::Places::get_all))]
 fn clock_limit(g: &[u8], n: u8) -> u32
     ensures { result ≡ clock_limit (settings_of (given_at g.now)).batching n }
 {
@@ -211,7 +208,6 @@ fn clock_limit(g: &[u8], n: u8) -> u32
 }
 
 // By the stage's number n, its timer t, the error's number e and the judgement's j.
-#[tactic(auto, unfolding(crate::specs::Possible::sequence_fits, outline::specs::Settings::settings_of, crate::specs::GivenImage::given_at, places::specs::Places::get_all))]
 fn is_sequence(g: &[u8], n: u8, t: u16, clock: u16, e: u8, j: u8) -> bool
     ensures { result ≡ sequence_fits (settings_of (given_at g.now)).batching n t clock e j }
 {
@@ -222,7 +218,7 @@ fn is_sequence(g: &[u8], n: u8, t: u16, clock: u16, e: u8, j: u8) -> bool
         & ((places::read::<i32>(g, MODE) == 1) | !((14 <= n) | (e == 7) | (e == 8)))
 }
 
-#[tactic(auto, unfolding(crate::specs::Possible::totals_possible, crate::specs::StateImage::back_tag, crate::specs::StateImage::back_weight))]
+#[tactic(auto, unfolding(crate::specs::StateImage::back_tag, crate::specs::StateImage::back_weight))]
 fn is_totals(t: Totals) -> bool
     ensures { result ≡ totals_possible t }
 {
@@ -233,7 +229,6 @@ fn is_totals(t: Totals) -> bool
 }
 
 // The flow stages that a batch with these setpoints has, by the stage's number.
-#[tactic(auto, unfolding(crate::specs::Possible::flow_possible))]
 fn flow_fits(m: Mode, p: Setpoints, n: u8) -> bool
     ensures { result ≡ flow_possible m p n }
 {
@@ -242,7 +237,6 @@ fn flow_fits(m: Mode, p: Setpoints, n: u8) -> bool
         & (!((n == 6) | (n == 7)) | (p.preliminary != 0))
 }
 
-#[tactic(auto, unfolding(crate::specs::Possible::together_fits))]
 fn is_together(
     m: Mode,
     p: Setpoints,
@@ -261,7 +255,6 @@ fn is_together(
         & flow_fits(m, p, n)
 }
 
-#[tactic(auto, unfolding(outline::specs::Settings::settings_of, crate::specs::GivenImage::given_at, places::specs::Places::get_all))]
 fn given_mode(g: &[u8]) -> Mode
     ensures { result ≡ (settings_of (given_at g.now)).batching.mode }
 {
@@ -279,7 +272,6 @@ fn write_fits(g: &[u8], w: Option<Setpoints>) -> bool
 }
 
 // What is left to ask after the day book, the totals, zero and tare, and what waits: the other parts, and how all go together.
-#[tactic(auto, unfolding(crate::specs::Possible::rest_possible))]
 fn is_rest(
     g: &[u8],
     q: Stability,

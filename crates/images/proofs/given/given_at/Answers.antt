@@ -1,5 +1,5 @@
 -- A signed number is the one that was read.
-use Rattle.std.proofs.Common.{List, ℕ, sym, ap, ◌∙◌}
+use Rattle.std.proofs.Common.{sym, ap, ◌∙◌}
 use Rattle.std.specs.Int.{w32}
 use Rattle.whole.specs.Bits.{got}
 use Rattle.places.specs.Places.{get_all}

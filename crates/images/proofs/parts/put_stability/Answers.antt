@@ -1,7 +1,5 @@
 -- The buffer holds the state made anew, since its bytes are the image written over.
-use Rattle.std.proofs.Common.{rules, arith}
-use Rattle.std.proofs.lemmas.Grind.{common_steps}
-use Rattle.whole.specs.Machine.{sfits_of}
+use Rattle.std.proofs.Common.{arith}
 use Rattle.images.proofs.Buffers.{put_here}
 use Rattle.places.specs.Places.{put_all}
 use Rattle.images.proofs.InPlace.{turns_stability}

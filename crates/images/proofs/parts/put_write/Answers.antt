@@ -1,5 +1,5 @@
 -- The buffer holds the state made anew, since its bytes are the image written over.
-use Rattle.std.proofs.Common.{arith, ◌≡◌, subst, ◌∙◌}
+use Rattle.std.proofs.Common.{arith, subst, ◌∙◌}
 use Rattle.places.specs.Places.{put_all, flag_tag}
 use Rattle.images.specs.StateImage.{write_tag, write_points}
 use Rattle.images.specs.Holds.{HeldSetpoints}
@@ -22,3 +22,7 @@ returns-clause-state c =
       near = omega arith;
     } in
     turns_waiting c.args.w (subst HeldSetpoints (c.unwrap_or.ensures ∙ points_else c.args.w) held) _ _ (grind (arith, put_here))
+
+pub returns-clause-bytes : goal.returns-clause-bytes
+unfolding put_all flag_tag write_tag write_points
+returns-clause-bytes c = grind (arith, put_here)

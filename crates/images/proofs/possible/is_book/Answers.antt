@@ -1,5 +1,5 @@
 -- Two tests come first and bound the sums; the rest is the chain without them.
-use Rattle.std.proofs.Common.{◌≡◌, sym, ◌∙◌, ◌+◌, ◌*◌, leb, true, pos, ◌+ℤ◌, to_z-of_z, SFits}
+use Rattle.std.proofs.Common.{◌≡◌, sym, ◌∙◌, ◌+◌, ◌*◌, leb, pos, ◌+ℤ◌, to_z-of_z, SFits}
 use Rattle.std.specs.Prelude.{nat_abs}
 use Rattle.std.specs.Int.{w32, w64}
 use lib.Dec.{lit<}

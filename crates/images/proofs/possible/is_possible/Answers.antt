@@ -1,16 +1,13 @@
 -- Part by part: a day book, totals, a weighing or what waits that is not possible ends the test; after them the rest is asked.
-use Rattle.std.proofs.Common.{◌≡◌, sym, ap, ◌∙◌, Option, ℕ, List, length, true}
-use Rattle.std.specs.Option.{is_some}
+use Rattle.std.proofs.Common.{sym, ap, ◌∙◌, Option}
 use Rattle.types.specs.declared.stages.Setpoints.{Setpoints}
 use Rattle.types.specs.declared.machine.State.{State}
-use Rattle.types.specs.declared.settings.Settings.{Settings}
 use Rattle.outline.specs.Kinds.{is_write}
 use Rattle.outline.specs.Ranges.{write_fits}
 use Rattle.outline.specs.Settings.{settings_of}
 use Rattle.images.specs.StateImage.{state_at}
 use Rattle.images.specs.GivenImage.{given_at}
 use Rattle.images.specs.Possible.{book_possible, weighing_possible, totals_possible, rest_possible}
-use Rattle.images.specs.Buffers.{is_image}
 use Rattle.images.proofs.Buffers.{part_here, waiting_here, possible_here, possible_no_settings, possible_no_state}
 use Rattle.images.proofs.Tests.{not_book, not_weighing, not_totals, not_waiting, rest, write_is}
 use Rattle.images.proofs.possible.is_possible.Goals as goal
