@@ -1,7 +1,8 @@
 // Step 6 of a batch, stages 03 to 11, at a tick that error 9 has not ended; and what a discharge shares with it.
 ghost use Rattle.std.specs.Prelude.{◌≡◌, Bool, true, false, ℤ};
 ghost use Rattle.types.specs.declared.stages.Stage.{Stage};
-ghost use Rattle.outline.specs.Stages.{facts_at, wait_of, after_large, first_flow, after_start, judged_of, idle_of, flowing_of, discharging_of};
+ghost use Rattle.outline.specs.Stages.{facts_at, wait_of, after_large, first_flow, after_start, judged_of, idle_of, flowing_of};
+ghost use Rattle.outline.specs.Stages.{discharging_of};
 ghost use Rattle.outline.specs.Stages.{clock_of, failed_of, land_of, advance_of};
 
 use crate::comparison::{is_over, is_reached, is_under};

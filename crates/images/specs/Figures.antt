@@ -430,7 +430,8 @@ pub record Judged : Type 0 where
   pub clock_over : under given_a (stands feeding (stage.SmallFlow) 6001 None None) ≡ false
   pub judgement_in_a_batch : under given_a (stands feeding (stage.SmallFlow) 6000 None (Some judgement.Ok)) ≡ false
   pub stopped_discharge : under given_a (stands failed (stage.Idle) 0 (Some error.DischargeStopped) (Some judgement.Under)) ≡ true
-  pub stopped_discharge_in_mode_2 : under given_loss (stands failed (stage.Idle) 0 (Some error.DischargeStopped) (Some judgement.Under)) ≡ false
+  pub stopped_discharge_in_mode_2 :
+      under given_loss (stands failed (stage.Idle) 0 (Some error.DischargeStopped) (Some judgement.Under)) ≡ false
   pub bad_weight_in_mode_2 : under given_loss (stands failed (stage.Idle) 0 (Some error.BadWeight) (Some judgement.Under)) ≡ true
   pub discharging : under given_a (stands failed (stage.Discharge) 1 None (Some judgement.Under)) ≡ true
   pub discharging_in_mode_2 : under given_loss (stands failed (stage.Discharge) 1 None (Some judgement.Under)) ≡ false

@@ -2,7 +2,8 @@
 #![tactic(auto)]
 
 ghost use Rattle.std.specs.Prelude.{◌≡◌};
-ghost use Rattle.outline.specs.Numbers.{refusal_number, outcome_number, told_number, stage_number, error_number, judgement_number, analog_number};
+ghost use Rattle.outline.specs.Numbers.{refusal_number, outcome_number, told_number, stage_number, error_number, judgement_number};
+ghost use Rattle.outline.specs.Numbers.{analog_number};
 
 use types::analog::Analog;
 use types::lines::LineRefusal;

@@ -175,7 +175,8 @@ pub record WhileConnected : Type 0 where
       ≡ tracks (1 ∷ 2 ∷ 0 ∷ 1 ∷ []) (pos 0 ∷ pos 0 ∷ pos 0 ∷ pos 0 ∷ []) (pos 0 ∷ pos 0 ∷ pos 0 ∷ pos 0 ∷ [])
   -- the same with a tare that is refused (4), and with a tare clear
   pub track-tare :
-      tracks_in 3 (draw (pos 4) ∷ draw (pos 4) ∷ closed (pos 4) (Some request.Tare) ∷ draw (pos 4) ∷ closed (pos 4) (Some request.TareClear) ∷ [])
+      tracks_in 3 (draw (pos 4) ∷ draw (pos 4) ∷ closed (pos 4) (Some request.Tare) ∷ draw (pos 4)
+      ∷ closed (pos 4) (Some request.TareClear) ∷ [])
       ≡ tracks (1 ∷ 2 ∷ 0 ∷ 1 ∷ 0 ∷ []) (pos 0 ∷ pos 0 ∷ pos 0 ∷ pos 0 ∷ pos 0 ∷ []) (pos 0 ∷ pos 0 ∷ pos 0 ∷ pos 0 ∷ pos 0 ∷ [])
   -- a tare that is accepted, ten ticks at 5 before it: with the contact open its tick counts
   pub tare_counter : counters settings10 (calm_at (pos 5)) (pos 5) (Some request.Tare) ≡ 11 ∷ 0 ∷ []
@@ -184,5 +185,6 @@ pub record WhileConnected : Type 0 where
   -- a block with the contact closed, and then one with it open
   pub block_closed : zeroes (block_of (settings_q 3) open_state (replicate 3 (pos 4)) true).state ≡ pos 0 ∷ pos 0 ∷ []
   pub block-open :
-      zeroes (block_of (settings_q 3) (block_of (settings_q 3) open_state (replicate 3 (pos 4)) true).state (replicate 3 (pos 4)) false).state
+      zeroes (block_of (settings_q 3) (block_of (settings_q 3) open_state (replicate 3 (pos 4)) true).state
+      (replicate 3 (pos 4)) false).state
       ≡ pos 4 ∷ pos 4 ∷ []

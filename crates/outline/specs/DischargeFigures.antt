@@ -399,7 +399,8 @@ pub record Discharged : Type 0 where
   pub stop_overloaded : in_each (pos 110000) (Some request.Stop) ≡ replicate 3 (over 7)
   -- in the ticks in which 14, 15 and 16 would end, and in that in which the clock would pass the limit
   pub stop-at-end :
-      behind 6000 2 0 (pos 1000) (Some request.Stop) ∷ behind 6000 5 0 (pos 200) (Some request.Stop) ∷ behind 6000 5 3 (pos 200) (Some request.Stop) ∷ []
+      behind 6000 2 0 (pos 1000) (Some request.Stop) ∷ behind 6000 5 0 (pos 200) (Some request.Stop)
+      ∷ behind 6000 5 3 (pos 200) (Some request.Stop) ∷ []
       ≡ replicate 3 (over 7)
   pub stop_past_limit : behind 5 5 3 (pos 200) (Some request.Stop) ≡ over 7
   -- "Stop in stage 00 changes nothing.": the error stands, in a bad tick too, until the next BD
@@ -519,8 +520,10 @@ in16 = state_after settings3 (drained 5 1) before
 -- every request, and setpoints that break the rules beside others that keep them
 abbrev pub every : List (Option Request)
 every =
-    (Some request.Zero) ∷ (Some request.Tare) ∷ (Some request.TareClear) ∷ (Some request.Start) ∷ Some (request.Set points) ∷ Some (request.Set (setpoints 1 2 0 0))
-    ∷ (Some request.Discharge) ∷ (Some request.Stop) ∷ (Some request.TotalClear) ∷ (Some request.Undo) ∷ (Some request.ShowGross) ∷ (Some request.ShowNet) ∷ (Some request.DayClose) ∷ []
+    (Some request.Zero) ∷ (Some request.Tare) ∷ (Some request.TareClear) ∷ (Some request.Start) ∷ Some (request.Set points)
+    ∷ Some (request.Set (setpoints 1 2 0 0))
+    ∷ (Some request.Discharge) ∷ (Some request.Stop) ∷ (Some request.TotalClear) ∷ (Some request.Undo) ∷ (Some request.ShowGross)
+    ∷ (Some request.ShowNet) ∷ (Some request.DayClose) ∷ []
 
 -- what each is answered in such a state at this count, and the stage and the error after each
 pub record Asked : Type 0 where
@@ -631,7 +634,8 @@ pub record Requested : Type 0 where
   pub undo_in_15 : standing (with15 (Some request.Undo)) ≡ 15 ∷ 0 ∷ 1 ∷ 0 ∷ 0 ∷ []
   pub clear_in_15 : standing (with15 (Some request.TotalClear)) ≡ 15 ∷ 0 ∷ 1 ∷ 0 ∷ 0 ∷ []
   pub clear_then_undo : outcome_number (told settings3 (with15 (Some request.TotalClear)) (pos 1000) (Some request.Undo)).outcome ≡ 7
-  pub undo_none : outcome_number (told settings3 (state_after settings3 (drained 0 0) open_state) (pos 1000) (Some request.Undo)).outcome ≡ 7
+  pub undo_none :
+      outcome_number (told settings3 (state_after settings3 (drained 0 0) open_state) (pos 1000) (Some request.Undo)).outcome ≡ 7
   pub net_in_15 : (with15 (Some request.ShowNet)).panel.display ≡ display.Net
   pub gross_in_15 : (with15 (Some request.ShowGross)).panel.display ≡ display.Gross
   pub close-in-15 :

@@ -42,7 +42,8 @@ pub record Empty (s : Settings) (st : State) (count : ℤ) (contact : Bool) (rec
 pub record Untouched (s : Settings) (st : State) (count : ℤ) (contact : Bool) (receive buffer : List ℕ) : Type 0 where
   pub no_line : kind_of receive ≡ kind.NoLine → Empty s st count contact receive buffer
   pub long_line : kind_of receive ≡ kind.Long → Empty s st count contact receive buffer
-  pub other_address : (line_tick_of s st count contact receive buffer).told ≡ Err told.OtherAddress → Empty s st count contact receive buffer
+  pub other_address :
+      (line_tick_of s st count contact receive buffer).told ≡ Err told.OtherAddress → Empty s st count contact receive buffer
   pub short_buffer : (line_tick_of s st count contact receive buffer).told ≡ Err told.ShortBuffer → Empty s st count contact receive buffer
   pub past :
       let n = (line_tick_of s st count contact receive buffer).length in

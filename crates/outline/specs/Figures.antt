@@ -1,6 +1,7 @@
 -- The outline's section "Figures on both sides", as statements: `Starred` has a field for each starred row, named by its row. They are
 -- proved in proofs/Figures.antt, by computing whole runs through the definitions.
-use Rattle.std.specs.Prelude.{ℕ, zero, suc, ◌≡◌, Bool, true, false, not, ◌&&◌, replicate, get_or, set, ℤ, pos, neg_ℤ, ◌+ℤ◌, ◌-ℤ◌, Some, Option, None}
+use Rattle.std.specs.Prelude.{ℕ, zero, suc, ◌≡◌, Bool, true, false, not, ◌&&◌, replicate, get_or, set, ℤ, pos, neg_ℤ, ◌+ℤ◌, ◌-ℤ◌, Some}
+use Rattle.std.specs.Prelude.{Option, None}
 use mathlib.Core.List.{List, [], ◌∷◌, foldl}
 use Rattle.std.specs.Float.{fin}
 use Rattle.types.specs.declared.settings.Given.{Given}

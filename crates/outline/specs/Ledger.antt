@@ -1,5 +1,6 @@
 -- The total and the count, made of the batches that finished, the undos and the clears of a run.
-use Rattle.std.specs.Prelude.{ℕ, suc, ◌+◌, ◌-◌, Bool, true, false, cond, not, ◌&&◌, List, [], ◌∷◌, leb, ltb, eqb, length, ℤ, nat_abs, neg_ℤ, Option, None, Some}
+use Rattle.std.specs.Prelude.{ℕ, suc, ◌+◌, ◌-◌, Bool, true, false, cond, not, ◌&&◌, List, [], ◌∷◌, leb, ltb, eqb, length, ℤ, nat_abs}
+use Rattle.std.specs.Prelude.{neg_ℤ, Option, None, Some}
 use Rattle.std.specs.Int.Signed.{non_neg}
 use Rattle.types.specs.declared.settings.Mode.{Mode}
 use Rattle.types.specs.declared.settings.Mode.TheVariants as mode

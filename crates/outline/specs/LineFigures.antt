@@ -60,7 +60,8 @@ pub record Received : Type 0 where
   pub kind_empty : kind_of (line "") ≡ kind.Empty
   pub kind_one : kind_of (line "R") ≡ kind.Text
   pub kind-numbers :
-      (kind_number (kind_of (ascii "RW")) ∷ kind_number (kind_of (xs 65)) ∷ kind_number (kind_of (line "")) ∷ kind_number (kind_of (xs 64)) ∷ [])
+      (kind_number (kind_of (ascii "RW")) ∷ kind_number (kind_of (xs 65)) ∷ kind_number (kind_of (line ""))
+      ∷ kind_number (kind_of (xs 64)) ∷ [])
       ≡ 0 ∷ 1 ∷ 2 ∷ 3 ∷ []
 
 -- ---- prefix, length, weight shown

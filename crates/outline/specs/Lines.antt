@@ -1,5 +1,6 @@
 -- The outline's section "Serial lines", first part: what a receive buffer asks for. A buffer is the list of its bytes.
-use Rattle.std.specs.Prelude.{ℕ, suc, ◌+◌, ◌-◌, ◌*◌, ◌/◌, ◌%◌, List, [], ◌∷◌, Bool, true, cond, ◌&&◌, length, get_or, take, drop, leb, ltb, eqb, Option, None, Some, Result, Ok, Err}
+use Rattle.std.specs.Prelude.{ℕ, suc, ◌+◌, ◌-◌, ◌*◌, ◌/◌, ◌%◌, List, [], ◌∷◌, Bool, true, cond, ◌&&◌, length, get_or, take, drop, leb}
+use Rattle.std.specs.Prelude.{ltb, eqb, Option, None, Some, Result, Ok, Err}
 use Rattle.types.specs.declared.stages.Setpoints.{Setpoints}
 use Rattle.types.specs.declared.lines.NoEnd.{NoEnd}
 use Rattle.types.specs.declared.lines.NoEnd.TheVariants.{Missing, Beyond}
@@ -159,7 +160,9 @@ decode_of None line at = Err fault.Unknown
 
 -- 11: "under two after the prefix"
 unfoldable pub body_of : List ℕ → ℕ → Result Order LineFault
-body_of line at = cond (ltb (length line) (at + 2)) (Err fault.Malformed) (decode_of (letters_of (get_or line at 0) (get_or line (at + 1) 0)) line at)
+body_of line at =
+    cond (ltb (length line) (at + 2)) (Err fault.Malformed)
+    (decode_of (letters_of (get_or line at 0) (get_or line (at + 1) 0)) line at)
 
 -- 12: "prefix missing or of another address"
 unfoldable pub spoken_of : List ℕ → ℕ → Result Order LineFault

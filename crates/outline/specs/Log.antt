@@ -1,6 +1,7 @@
 -- The outline's section "Figures on both sides", its last part: the lines that the ticket program reads. A line is the list of its bytes,
 -- without the LF that ends it.
-use Rattle.std.specs.Prelude.{ℕ, suc, ◌+◌, ◌-◌, ◌*◌, List, [], ◌∷◌, ◌++◌, Bool, cond, ◌&&◌, ◌||◌, length, get_or, take, drop, leb, ltb, eqb, ℤ, pos, neg_ℤ, Option, Some, None, Ok}
+use Rattle.std.specs.Prelude.{ℕ, suc, ◌+◌, ◌-◌, ◌*◌, List, [], ◌∷◌, ◌++◌, Bool, cond, ◌&&◌, ◌||◌, length, get_or, take, drop, leb, ltb}
+use Rattle.std.specs.Prelude.{eqb, ℤ, pos, neg_ℤ, Option, Some, None, Ok}
 use Rattle.types.specs.declared.settings.Settings.{Settings}
 use Rattle.types.specs.declared.machine.State.{State}
 use Rattle.types.specs.declared.lines.LineTick.{LineTick}

@@ -107,7 +107,8 @@ pub record Opened : Type 0 where
   pub no_state : opened_of (open_of (given_of (set list_a 1 (pos 99999)))) ≡ []
   -- "division d | 1, 2, 5, 10, 20, 50": 100, 200, 500, 0, -1 are none
   pub other-divisions :
-      division_opens (pos 100) ∷ division_opens (pos 200) ∷ division_opens (pos 500) ∷ division_opens (pos 0) ∷ division_opens (minus 1) ∷ []
+      division_opens (pos 100) ∷ division_opens (pos 200) ∷ division_opens (pos 500) ∷ division_opens (pos 0)
+      ∷ division_opens (minus 1) ∷ []
       ≡ 10 ∷ 10 ∷ 10 ∷ 10 ∷ 10 ∷ []
   -- "low and high end | .. -999,999..999,999, not equal": each end at each of its limits, and one beyond
   pub ends-at-limits :

@@ -1,5 +1,6 @@
 -- The outline's section "Serial lines", second part: the bytes of each reply, the caller's reply buffer, and the tick with a line.
-use Rattle.std.specs.Prelude.{ℕ, zero, suc, ◌/◌, ◌%◌, List, [], ◌∷◌, ◌++◌, Bool, true, false, cond, not, ◌&&◌, length, drop, replicate, leb, ℤ, pos, nat_abs, Result, Ok, Err, Option, None, Some}
+use Rattle.std.specs.Prelude.{ℕ, zero, suc, ◌/◌, ◌%◌, List, [], ◌∷◌, ◌++◌, Bool, true, false, cond, not, ◌&&◌, length, drop, replicate}
+use Rattle.std.specs.Prelude.{leb, ℤ, pos, nat_abs, Result, Ok, Err, Option, None, Some}
 use Rattle.std.specs.Int.Signed.{lt_z}
 use Rattle.types.specs.declared.requests.Refusal.{Refusal}
 use Rattle.types.specs.declared.settings.Settings.{Settings}

@@ -37,7 +37,8 @@ running = after (leg 1 (pos 0) (Some (request.Set (setpoints 10 0 0 0))) ∷ leg
 
 -- in 09 and stable: F 1,000, two ticks and then nine more at 0
 abbrev pub running_calm : State
-running_calm = after (leg 1 (pos 0) (Some (request.Set (setpoints 1000 0 0 0))) ∷ leg 1 (pos 0) (Some request.Start) ∷ leg 9 (pos 0) None ∷ [])
+running_calm = after (leg 1 (pos 0) (Some (request.Set (setpoints 1000 0 0 0))) ∷ leg 1 (pos 0) (Some request.Start)
+    ∷ leg 9 (pos 0) None ∷ [])
 
 -- a tare of 10
 abbrev pub tared : State
@@ -106,7 +107,8 @@ pub record Asked : Type 0 where
   pub set_bad : number open_state (pos 2000001) (Some (request.Set (setpoints 10 0 0 0))) ≡ 0
   pub set_bad_final : (tick_at settings10 open_state (pos 2000001) (Some (request.Set (setpoints 10 0 0 0)))).state.setpoints.target ≡ 10
   pub set_overload : number open_state (pos 110000) (Some (request.Set (setpoints 10 0 0 0))) ≡ 0
-  pub set_overload_final : (tick_at settings10 open_state (pos 110000) (Some (request.Set (setpoints 10 0 0 0)))).state.setpoints.target ≡ 10
+  pub set_overload_final :
+      (tick_at settings10 open_state (pos 110000) (Some (request.Set (setpoints 10 0 0 0)))).state.setpoints.target ≡ 10
   -- "Seven numbers 0..999,999": at the limit, and one more in each of four
   pub set_at_limit : set_number 999999 999999 999999 999999 ≡ 0
   pub set_beyond :
@@ -135,7 +137,8 @@ pub record Asked : Type 0 where
       ∷ stage_with (Some request.DayClose) ∷ stage_with (Some (request.Set (setpoints 10 0 0 0))) ∷ []
       ≡ 8 ∷ 8 ∷ 8 ∷ 8 ∷ 8 ∷ 8 ∷ []
   pub step-6-refused :
-      stage_with (Some request.Zero) ∷ stage_with (Some request.Tare) ∷ stage_with (Some request.TareClear) ∷ stage_with (Some request.Start)
+      stage_with (Some request.Zero) ∷ stage_with (Some request.Tare) ∷ stage_with (Some request.TareClear)
+      ∷ stage_with (Some request.Start)
       ∷ stage_with (Some (request.Set (setpoints 1 2 0 0))) ∷ stage_with (Some request.Undo) ∷ stage_with (Some request.Discharge) ∷ []
       ≡ 8 ∷ 8 ∷ 8 ∷ 8 ∷ 8 ∷ 8 ∷ 8 ∷ []
   pub step_6_stop : stage_with (Some request.Stop) ≡ 0

@@ -20,7 +20,8 @@ use Rattle.outline.specs.Zero.{in_zero_range, zeroed_of, in_tare_range, tared_of
 use Rattle.outline.specs.Setpoints.{setpoints_fit, none_waiting, waiting_for, latest_of}
 use Rattle.outline.specs.Stages.{idle_of, start_sequence, stop_sequence, discharge_sequence}
 use Rattle.outline.specs.Totals.{clear_totals, none_back, taken_back}
-use Rattle.outline.specs.Parts.{with_book, with_weighing, with_display, with_setpoints, with_waiting, with_sequence, with_totals, pick_state}
+use Rattle.outline.specs.Parts.{with_book, with_weighing, with_display, with_setpoints, with_waiting, with_sequence, with_totals}
+use Rattle.outline.specs.Parts.{pick_state}
 
 -- stage 00
 abbrev pub idle_now : State → Bool

@@ -34,7 +34,8 @@ settings_still = settings_of (given_of (set list_a 6 (pos 0)))
 
 abbrev pub tare_at : ℤ → ℕ
 tare_at count =
-    outcome_number (told settings_still (foldl (count_in settings_still false) open_state (replicate 100 count)) count (Some request.Tare)).outcome
+    outcome_number (told settings_still (foldl (count_in settings_still false) open_state (replicate 100 count)) count
+    (Some request.Tare)).outcome
 
 pub record Weighed : Type 0 where
   -- a half of a tenth on either side of Z goes away from zero
@@ -96,7 +97,8 @@ pub record Refused : Type 0 where
 abbrev pub judged : ℕ → ℕ → ℕ → ℤ → List Answer
 judged f over under count =
     answers settings_a
-    (leg 1 (pos 0) (Some (request.Set (record { target = f; fall = f; preliminary = 0; optional = 0; over = over; under = under; near = 0 })))
+    (leg 1 (pos 0) (Some (request.Set (record { target = f; fall = f; preliminary = 0; optional = 0; over = over; under = under;
+      near = 0 })))
     ∷ leg 1 (minus 100) (Some request.Start) ∷ leg 2 (minus 100) None ∷ leg 103 count None ∷ [])
     open_state
 
@@ -176,7 +178,8 @@ pub record Staged : Type 0 where
   pub loss_stages : stages_in (after 103 loss) ≡ 3 ∷ 6 ∷ 7 ∷ 7 ∷ 8 ∷ 9 ∷ 10 ∷ []
   pub loss_full : fulls_in (after 103 loss) ≡ true ∷ true ∷ true ∷ false ∷ false ∷ false ∷ false ∷ []
   -- total and count go back
-  pub undone : ((next one_batch (pos 100) (Some request.Undo)).totals.total ≡ 0) × ((next one_batch (pos 100) (Some request.Undo)).totals.count ≡ 0)
+  pub undone :
+      ((next one_batch (pos 100) (Some request.Undo)).totals.total ≡ 0) × ((next one_batch (pos 100) (Some request.Undo)).totals.count ≡ 0)
   -- a read in the finishing tick shows the total before the booking, one in the next tick the total after it
   pub read_before : reply settings_a (held 100 (held 2 running (pos 0)) (pos 100)) (pos 100) (line "RT") 19 ≡ line "00000000,00000000"
   pub read_after : reply settings_a (held 101 (held 2 running (pos 0)) (pos 100)) (pos 100) (line "RT") 19 ≡ line "00000010,00000001"
@@ -202,7 +205,8 @@ pub record Booked : Type 0 where
   pub unbooked : (book_of (late_book 8640000) (Some (pos 90)) true).unbooked ≡ pos 10
   pub bad_counts : (book_of (late_book 8639999) None false).ticks ≡ day_ticks
   pub next_day : closed_of (late_book 5)
-      ≡ record { begun = true; contact = false; opening = pos 100; last = pos 100; refilled = pos 0; used = pos 0; unbooked = pos 0; ticks = 0 }
+      ≡ record { begun = true; contact = false; opening = pos 100; last = pos 100; refilled = pos 0; used = pos 0; unbooked = pos 0;
+        ticks = 0 }
   -- near zero of 0: on at 0, off above, off in a bad tick
   pub near : (told settings_a open_state (pos 4) None).near ≡ true
   pub near_above : (told settings_a open_state (pos 5) None).near ≡ false
@@ -223,6 +227,7 @@ pub record Booked : Type 0 where
   -- a block is its ticks; an empty one changes nothing; a longer one is refused
   pub block : (block_of settings_a open_state (pos 0 ∷ minus 30 ∷ []) false).state
       ≡ next (next open_state (pos 0) None) (minus 30) None
-  pub block_empty : (block_number (block_of settings_a running [] true).answer ≡ 0) × ((block_of settings_a running [] true).state ≡ running)
+  pub block_empty :
+      (block_number (block_of settings_a running [] true).answer ≡ 0) × ((block_of settings_a running [] true).state ≡ running)
   pub block_long_state : (block_of settings_a running (replicate (suc block_limit) (pos 0)) false).state ≡ running
   pub block_long : block_number (block_of settings_a open_state (replicate (suc block_limit) (pos 0)) false).answer ≡ 15

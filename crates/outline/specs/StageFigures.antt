@@ -41,7 +41,8 @@ broken_at count n m = standing (state_after settings10 (quick n m ++ (leg 1 coun
 -- in each stage from 03 to 11
 abbrev pub broken : ℤ → List (List ℕ)
 broken c =
-    broken_at c 0 0 ∷ broken_at c 1 0 ∷ broken_at c 2 0 ∷ broken_at c 2 1 ∷ broken_at c 2 2 ∷ broken_at c 2 3 ∷ broken_at c 2 4 ∷ broken_at c 2 5
+    broken_at c 0 0 ∷ broken_at c 1 0 ∷ broken_at c 2 0 ∷ broken_at c 2 1 ∷ broken_at c 2 2 ∷ broken_at c 2 3 ∷ broken_at c 2 4
+    ∷ broken_at c 2 5
     ∷ broken_at c 2 6 ∷ []
 
 -- ---- the flow clock
@@ -75,7 +76,8 @@ abbrev pub judged_at : ℤ → ℕ
 judged_at count =
     judgement_number
     (state_after settings10
-    (leg 1 (minus 100) (Some (request.Set (record { target = 10; fall = 10; preliminary = 0; optional = 0; over = 1; under = 3; near = 0 })))
+    (leg 1 (minus 100) (Some (request.Set (record { target = 10; fall = 10; preliminary = 0; optional = 0; over = 1; under = 3;
+      near = 0 })))
     ∷ leg 1 (minus 100) (Some request.Start) ∷ leg 1 (minus 100) None ∷ leg 11 count None ∷ [])
     open_state).sequence.judgement
 

@@ -49,7 +49,8 @@ abbrev pub left_of : Result (Unit {0}) Refusal → State → Bool → Bool → O
 left_of o st held keyed day = record { outcome = o; state = st; held = held; keyed = keyed; closed = day }
 
 -- steps 1 to 5 of a tick with a request, call by call
-pub record Asked (s : Settings) (st : State) (i : Input) (raw : Option ℤ) (q : Stability) (b : Book) (x : Weights) (o : Result (Unit {0}) Refusal) (d : Option Request)
+pub record Asked (s : Settings) (st : State) (i : Input) (raw : Option ℤ) (q : Stability) (b : Book) (x : Weights)
+    (o : Result (Unit {0}) Refusal) (d : Option Request)
     (st' : State) (held keyed : Bool) (day : Option Book) (x' : Weights) (idle : Bool) (w : Weighing) : Type 0 where
   pub raws : raw ≡ raw_of s.calibration i.count
   pub steadied : q ≡ steadied_of s.steadiness st.stability st.book.last raw

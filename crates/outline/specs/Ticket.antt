@@ -1,5 +1,6 @@
 -- The outline's section "Figures on both sides", its last part: what the ticket program prints. A text is the list of its bytes.
-use Rattle.std.specs.Prelude.{ℕ, zero, suc, ◌/◌, List, [], ◌∷◌, ◌++◌, Bool, false, cond, length, leb, ltb, ℤ, pos, nat_abs, Option, None, Some}
+use Rattle.std.specs.Prelude.{ℕ, zero, suc, ◌/◌, List, [], ◌∷◌, ◌++◌, Bool, false, cond, length, leb, ltb, ℤ, pos, nat_abs, Option, None}
+use Rattle.std.specs.Prelude.{Some}
 use Rattle.std.specs.Int.Signed.{lt_z}
 use Rattle.types.specs.declared.daybook.Book.{Book}
 use Rattle.types.specs.declared.weight.Weighing.{Weighing}

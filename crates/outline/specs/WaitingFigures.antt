@@ -52,7 +52,8 @@ in11 = fed 3
 abbrev pub written : Setpoints → State
 written p =
     after
-    (leg 1 (pos 0) (Some (request.Set old)) ∷ leg 1 (pos 0) (Some request.Start) ∷ leg 2 (pos 0) None ∷ leg 1 (pos 0) (Some (request.Set p)) ∷ [])
+    (leg 1 (pos 0) (Some (request.Set old)) ∷ leg 1 (pos 0) (Some request.Start) ∷ leg 2 (pos 0) None
+    ∷ leg 1 (pos 0) (Some (request.Set p)) ∷ [])
 
 abbrev pub waits : State
 waits = written new
@@ -85,8 +86,10 @@ Sets st p w = (st.setpoints ≡ p) × (st.waiting ≡ w)
 pub record Waited : Type 0 where
   -- "setpoints no longer answer 3; 6 stands.": in 03, 08, 09, 10, 11, 15 and 16, and in a bad tick
   pub not-3 :
-      number in03 (pos 0) (Some (request.Set new)) ∷ number in08 (pos 0) (Some (request.Set new)) ∷ number in09 (pos 100) (Some (request.Set new))
-      ∷ number in10 (pos 100) (Some (request.Set new)) ∷ number in11 (pos 100) (Some (request.Set new)) ∷ number emptying (pos 100) (Some (request.Set new))
+      number in03 (pos 0) (Some (request.Set new)) ∷ number in08 (pos 0) (Some (request.Set new))
+      ∷ number in09 (pos 100) (Some (request.Set new))
+      ∷ number in10 (pos 100) (Some (request.Set new)) ∷ number in11 (pos 100) (Some (request.Set new))
+      ∷ number emptying (pos 100) (Some (request.Set new))
       ∷ number in16 (pos 0) (Some (request.Set new)) ∷ number in09 (pos 2000001) (Some (request.Set new)) ∷ []
       ≡ 0 ∷ 0 ∷ 0 ∷ 0 ∷ 0 ∷ 0 ∷ 0 ∷ 0 ∷ []
   pub broken : number waits (pos 0) (Some (request.Set (setpoints 1 2 0 0))) ≡ 6

@@ -1,6 +1,7 @@
 -- The outline's section "From count to weight". Raw and gross fine are in tenths, gross divisions in divisions, gross, net and tare in
 -- display digits.
-use Rattle.std.specs.Prelude.{suc, ◌+◌, ◌*◌, min, Bool, true, false, cond, not, ◌&&◌, ltb, eqb, ℤ, pos, nat_abs, ◌-ℤ◌, ◌*ℤ◌, Option, None, Some}
+use Rattle.std.specs.Prelude.{suc, ◌+◌, ◌*◌, min, Bool, true, false, cond, not, ◌&&◌, ltb, eqb, ℤ, pos, nat_abs, ◌-ℤ◌, ◌*ℤ◌, Option, None}
+use Rattle.std.specs.Prelude.{Some}
 use Rattle.whole.specs.Nearest.{nearest_of}
 use Rattle.whole.specs.Limit.{limit_to}
 use Rattle.types.specs.declared.settings.Calibration.{Calibration}

@@ -1,5 +1,6 @@
 -- Numbers at a place of a buffer: n bytes from `at`, the highest first. A byte past the end reads as 0, and is not written.
-use Rattle.std.specs.Prelude.{ℕ, zero, suc, ◌+◌, ◌-◌, ◌*◌, ◌/◌, ◌%◌, ◌^◌, ◌<◌, List, [], ◌∷◌, Bool, true, false, cond, ◌&&◌, ◌||◌, eqb, ltb, leb, ℤ, get_or, set}
+use Rattle.std.specs.Prelude.{ℕ, zero, suc, ◌+◌, ◌-◌, ◌*◌, ◌/◌, ◌%◌, ◌^◌, ◌<◌, List, [], ◌∷◌, Bool, true, false, cond, ◌&&◌, ◌||◌, eqb}
+use Rattle.std.specs.Prelude.{ltb, leb, ℤ, get_or, set}
 use Rattle.std.specs.Int.{Width}
 use Rattle.std.proofs.Common.{to_z, of_z}
 

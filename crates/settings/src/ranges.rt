@@ -1,7 +1,8 @@
 // The ranges of the settings: a function for each row of the outline's table and one for a discharge's, asked of any numbers at all.
 // Tests are joined by `&`, which asks them all: each can be asked of any number, and the check has one way through.
 ghost use Rattle.std.specs.Prelude.{◌≡◌};
-ghost use Rattle.outline.specs.Settings.{from_to, within, counts_fit, capacity_fits, division_fits, zero_range_fits, tracking_fits, stability_fits};
+ghost use Rattle.outline.specs.Settings.{from_to, within, counts_fit, capacity_fits, division_fits, zero_range_fits, tracking_fits};
+ghost use Rattle.outline.specs.Settings.{stability_fits};
 ghost use Rattle.outline.specs.Settings.{mode_fits, delays_fit, flow_fits, address_fits, analog_fits, discharge_fits, settings_fit};
 
 use types::settings::Given;
