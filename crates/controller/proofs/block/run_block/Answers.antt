@@ -1,14 +1,12 @@
 -- One count more: steps 1 to 5, call by call; where the ways of step 6 meet, each is a case of its definition.
-use Rattle.std.proofs.Common.{rules, ◌≡◌, refl, sym, ap, ◌∙◌, not, None, false, get_or, pos, ◌+◌, ◌<◌, ℕ, List, take, length, add-one, arith}
+use Rattle.std.proofs.Common.{rules, ◌≡◌, sym, ap, ◌∙◌, get_or, pos, ◌+◌, ◌<◌, ℕ, List, take, length, add-one, arith}
 use mathlib.Core.List.{foldl, foldl-append}
 use lib.Seq.{take-suc}
 use Rattle.types.specs.declared.machine.State.{State}
-use Rattle.outline.specs.Setpoints.{latest_of}
-use Rattle.outline.specs.Stages.{idle_of, advance_of, facts_at}
-use Rattle.outline.specs.Parts.{with_setpoints, with_waiting}
+use Rattle.outline.specs.Stages.{idle_of, facts_of}
 use Rattle.outline.specs.Steps.{parts_of, Parts}
-use Rattle.outline.specs.Tick.{stepped_of, count_in}
-use Rattle.outline.proofs.Steps.{parts_next, step_idle, step-on, step_back, step-finished, step_runs}
+use Rattle.outline.specs.Tick.{stepped_of, finished_of, count_in}
+use Rattle.outline.proofs.Steps.{parts_next, step_idle, step-on, step_runs}
 use Rattle.controller.proofs.block.run_block.Goals as goal
 use Rattle.controller.proofs.block.run_block.Goals.{then-not-idle+then-is_idle, then-after, else-after, then-not-idle+else-is_idle, else-not-idle}
 
@@ -17,7 +15,7 @@ fold_more : {A B : Type 0} (f : B → A → B) (b : B) (l : List A) (i : ℕ) (d
 fold_more f b l i d h = rw (add-one, take-suc l i d h, foldl-append)
 
 pub loop-count-preserved : goal.loop-count-preserved
-unfolding count_in
+unfolding count_in stepped_of finished_of facts_of
 loop-count-preserved c =
     let a = c.args in
     let l = c.loop-count in
@@ -32,36 +30,24 @@ loop-count-preserved c =
       idles = search rules;
       tracked = search rules;
     } in
-    let same : idle_of l.st.sequence.stage ≡ false → a.st.setpoints ≡ l.st.setpoints
-    = λ runs. sym (l.invariant.compared runs) in
-    let stepped : c.if-not-idle.st ≡ stepped_of a.s (parts_of l.st c.book_tick-st.result c.steadied-steadied.result c.tracked-st.result) x
+    let start = parts_of l.st c.book_tick-st.result c.steadied-steadied.result c.tracked-st.result in
+    let stepped : c.if-not-idle.st ≡ stepped_of a.s start x
     = elim c.if-not-idle.branch [
       | then-not-idle+then-is_idle w ↦
-          let advanced : w.advance-after.result ≡ advance_of a.s.batching a.st.setpoints l.st.sequence (facts_at a.st.setpoints (not w.is_fit-unfit.result) x.stable w.compared-v.result x.gross)
-          = search rules in
-          let runs = sym c.is_idle-idle.ensures ∙ w.if-not-idle.true in
-          let back = sym w.is_idle.ensures ∙ w.if-is_idle.true in
-          let landed = λ (r : State). with_waiting (with_setpoints r w.latest-st.result) None in
-          w.st-is ∙ elim w.if-after.branch [
-            | then-after k ↦ ap landed k.st-is
-                ∙ step-finished _ _ _ _ _ _ _ (same runs) w.is_fit-unfit.ensures w.compared-v.ensures advanced _ _ runs back
-                (w.latest-st.ensures ∙ (λ h. latest_of (same runs h) (k.st-is h).waiting)) refl
-                k.booked_sequence-st.result k.booked_totals-st.result k.if-after.true (search rules) (search rules)
-            | else-after k ↦ ap landed k.st-is
-                ∙ step_back _ _ _ _ _ _ _ (same runs) w.is_fit-unfit.ensures w.compared-v.ensures advanced _ _ runs back
-                (w.latest-st.ensures ∙ (λ h. latest_of (same runs h) (k.st-is h).waiting)) refl k.if-after.false
+          let same = sym (l.invariant.compared (sym c.is_idle-idle.ensures ∙ w.if-not-idle.true)) in
+          elim w.if-after.branch [
+            | then-after k ↦ search rules
+            | else-after k ↦ search rules
           ]
       | then-not-idle+else-is_idle w ↦
-          let advanced : w.advance-after.result ≡ advance_of a.s.batching a.st.setpoints l.st.sequence (facts_at a.st.setpoints (not w.is_fit-unfit.result) x.stable w.compared-v.result x.gross)
-          = search rules in
-          w.st-is ∙ step-on _ _ _ _ _ _ _ (same (sym c.is_idle-idle.ensures ∙ w.if-not-idle.true)) w.is_fit-unfit.ensures w.compared-v.ensures advanced
-          (sym w.is_idle.ensures ∙ w.if-is_idle.false)
-      | else-not-idle w ↦ w.st-is ∙ step_idle _ _ _ (sym c.is_idle-idle.ensures ∙ w.if-not-idle.false)
+          let same = sym (l.invariant.compared (sym c.is_idle-idle.ensures ∙ w.if-not-idle.true)) in
+          w.st-is ∙ step-on a.s start x a.st.setpoints w.is_fit-unfit.result w.compared-v.result w.advance-after.result same (search rules) (search rules) (search rules) (search rules)
+      | else-not-idle w ↦ w.st-is ∙ step_idle a.s start x (sym c.is_idle-idle.ensures ∙ w.if-not-idle.false)
     ] in
     record {
       folded = stepped ∙ parts_next parts ∙ ap (λ (st : State). count_in a.s a.contact st count) l.invariant.folded
           ∙ sym (fold_more (count_in a.s a.contact) a.st a.counts.now l.count-index (pos 0) (omega arith));
       compared = λ e.
-          let runs = step_runs a.s _ _ (sym (ap (λ (st : State). idle_of st.sequence.stage) stepped) ∙ e) in
+          let runs = step_runs a.s start x (sym (ap (λ (st : State). idle_of st.sequence.stage) stepped) ∙ e) in
           ap (λ (st : State). st.setpoints) stepped ∙ runs.1 ∙ l.invariant.compared runs.0;
     }
