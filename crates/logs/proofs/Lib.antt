@@ -1,6 +1,4 @@
 -- Laws that the proofs of this crate cite
-pub mod RestLaws
-pub mod RequestPlace
 -- numerals
 pub mod NumberLaws
 pub mod RunLaws
@@ -11,4 +9,3 @@ pub mod DecimalLaws
 pub mod TextLaws
 -- ticks
 pub mod ReceiveLaws
-pub mod TickLaws

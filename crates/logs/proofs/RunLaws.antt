@@ -1,34 +1,18 @@
 -- The run of digits that a part of a line begins with: how far it goes, what its bytes are, and what number its first bytes say.
 use Prim.Native.Nat.{ℕ, zero, suc, ◌+◌, ◌-◌, ◌*◌, ◌^◌, ◌≤◌, ◌<◌, zero-le}
-use mathlib.Core.Path.{◌≡◌, refl, sym, subst}
+use mathlib.Core.Path.{◌≡◌, refl}
 use mathlib.Core.List.{List, [], ◌∷◌, ◌++◌}
 use mathlib.Core.Bool.{Bool, true, false, cond}
 use native.Mathlib.Numerals.{add-one}
 use native.Mathlib.Omega.{arith}
-use lib.Dec.{T, lit<}
-use lib.ListN.{length, get_or, take, drop}
-use lib.Seq.{drop-cons, take-suc}
+use lib.Dec.{lit<}
+use lib.ListN.{length, get_or, take}
+use lib.Seq.{take-suc}
 use Rattle.outline.specs.Lines.{is_digit}
 use Rattle.outline.specs.Log.{digit_run, value_from}
 use Rattle.commands.specs.DigitLaws.{digit_range, next_digit, room}
 
 -- ---- the count of them
--- a digit stands within the list, since what is read behind it is none
-pub digit_within : (s : List ℕ) (i : ℕ) → is_digit (get_or s i 0) ≡ true → i < length s
-digit_within [] i h = absurd (subst T (sym h) tt)
-digit_within (x ∷ s) zero h = omega arith
-digit_within (x ∷ s) (suc i) h = omega (arith, digit_within s i h)
-
--- one byte further, and the end
-pub run_goes : (s : List ℕ) (i : ℕ) → is_digit (get_or s i 0) ≡ true → digit_run (drop i s) ≡ suc (digit_run (drop (i + 1) s))
-run_goes s i h = rw (drop-cons s i 0 (digit_within s i h), add-one) (simp h)
-
-pub run_stops : (s : List ℕ) (i : ℕ) → is_digit (get_or s i 0) ≡ false → digit_run (drop i s) ≡ 0
-run_stops [] zero h = refl
-run_stops [] (suc i) h = refl
-run_stops (x ∷ s) zero h = simp h
-run_stops (x ∷ s) (suc i) h = run_stops s i h
-
 pub run_length : (s : List ℕ) → digit_run s ≤ length s
 run_length [] = zero-le
 run_length (x ∷ s) = go (is_digit x) (run_length s)

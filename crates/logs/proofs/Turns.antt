@@ -1,9 +1,9 @@
 -- Bytes that are moved down in their buffer. Assumes nothing.
-use Prim.Native.Nat.{ℕ, zero, suc, ◌+◌, ◌-◌, ◌≤◌, ◌<◌}
+use Prim.Native.Nat.{ℕ, suc, ◌+◌, ◌-◌, ◌≤◌, ◌<◌}
 use native.Mathlib.Numerals.{add-one}
 use native.Mathlib.Nat.{add_comm}
 use native.Mathlib.Omega.{arith}
-use mathlib.Core.Path.{◌≡◌, refl, sym, ap, ◌∙◌}
+use mathlib.Core.Path.{◌≡◌, sym, ap, ◌∙◌}
 use mathlib.Core.List.{List, [], ◌∷◌, ◌++◌, append_assoc}
 use lib.ListN.{length, get_or, set, take, drop, length-take, length-drop}
 use lib.Seq.{drop-cons, take-suc, set_at, length-take-le, get_or-append-add, get_or-drop}
@@ -11,11 +11,6 @@ use Rattle.outline.specs.Log.{between}
 
 pub between_within : (l : List ℕ) (from end : ℕ) → length (between l from end) ≤ length l - from
 between_within l from end = simp (length-take, length-drop) (omega arith)
-
-pub taken_whole : (n : ℕ) (s : List ℕ) → take (length (take n s)) s ≡ take n s
-taken_whole zero s = refl
-taken_whole (suc n) [] = refl
-taken_whole (suc n) (x ∷ s) = ap (λ (l : List ℕ). x ∷ l) (taken_whole n s)
 
 -- i bytes are moved
 abbrev pub moved_by : List ℕ → ℕ → ℕ → List ℕ
