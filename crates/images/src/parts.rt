@@ -169,7 +169,9 @@ const NO_POINTS: Setpoints = Setpoints {
     near: 0,
 };
 
-// Setpoints stand at two places, in use and waiting.
+// Setpoints stand at two places, in use and waiting. Drawn into its callers, where the place and the length are known, a number is read in
+// one piece.
+#[inline(always)]
 #[tactic(auto, unfolding(places::specs::Places::get_all))]
 fn points_at(s: &[u8], at: usize) -> Setpoints
     requires { at ≤ 260 }
@@ -186,6 +188,7 @@ fn points_at(s: &[u8], at: usize) -> Setpoints
     }
 }
 
+#[inline(always)]
 #[tactic(auto, unfolding(places::specs::Places::put_all))]
 fn put_points(s: &mut [u8], at: usize, p: Setpoints)
     requires { at ≤ 260 }
