@@ -3,7 +3,6 @@ use Rattle.std.specs.Prelude.{Bool, true, false, ◌≡◌, refl, T, Float, Opti
 use Rattle.std.proofs.Common.{subst}
 use Rattle.types.specs.declared.analog.Board.{Board}
 use Rattle.types.specs.declared.analog.Board.TheVariants as board
-use Rattle.types.specs.declared.analog.Analog.TheVariants as analog
 use Rattle.outline.specs.Analog.{on_board}
 
 abbrev pub fitted : Option Board → Bool

@@ -45,12 +45,7 @@ fn clipped(x: f64, d: f64) -> f64
 }
 
 // What the board is given; `fit` is a good tick without overload.
-pub fn analog_value(
-    board: Option<Board>,
-    scale: Scale,
-    displayed: i32,
-    fit: bool,
-) -> Option<Analog>
+pub fn analog_value(board: Option<Board>, scale: Scale, displayed: i32, fit: bool) -> Option<Analog>
     ensures value { result ≡ analog_of board scale displayed fit }
     ensures number { analog_number result ≡ analog_due board fit }
     ensures values { analog_values result ≡ analog_values_due board scale displayed fit }

@@ -44,40 +44,56 @@ pub fn letters_for(w: Word) -> u16
     }
 }
 
-// The commands that stand alone.
-const WORDS: [Word; 14] = [
-    Word::ReadWeight,
-    Word::ReadTotal,
-    Word::ReadSetpoints,
-    Word::Zero,
-    Word::Tare,
-    Word::TareClear,
-    Word::ShowGross,
-    Word::ShowNet,
-    Word::Start,
-    Word::Stop,
-    Word::TotalClear,
-    Word::Undo,
-    Word::DayClose,
-    Word::Discharge,
-];
-
-// The first of some commands that has a pair of letters.
-fn word_of(words: &[Word], pair: u16) -> Option<Word>
-    ensures { result ≡ find (λ w. eqb pair (letters_for w)) words.now }
-{
-    words.iter().copied().find(|w| pair == letters_for(*w))
-}
-
-// The command that a pair of letters names.
+// The command that a pair of letters names. A table to look it up in would be an array, and no crate of the board makes one (bench/stack).
 #[tactic(auto, unfolding(outline::specs::Lines::letters_of))]
 pub(crate) fn letters_of(a: u8, b: u8) -> Option<Letters>
     ensures { result ≡ letters_of a b }
 {
     let pair = u16::from(a) * 256 + u16::from(b);
+    if pair == letters_for(Word::ReadWeight) {
+        return Some(Letters::One(Word::ReadWeight));
+    }
+    if pair == letters_for(Word::ReadTotal) {
+        return Some(Letters::One(Word::ReadTotal));
+    }
+    if pair == letters_for(Word::ReadSetpoints) {
+        return Some(Letters::One(Word::ReadSetpoints));
+    }
+    if pair == letters_for(Word::Zero) {
+        return Some(Letters::One(Word::Zero));
+    }
+    if pair == letters_for(Word::Tare) {
+        return Some(Letters::One(Word::Tare));
+    }
+    if pair == letters_for(Word::TareClear) {
+        return Some(Letters::One(Word::TareClear));
+    }
+    if pair == letters_for(Word::ShowGross) {
+        return Some(Letters::One(Word::ShowGross));
+    }
+    if pair == letters_for(Word::ShowNet) {
+        return Some(Letters::One(Word::ShowNet));
+    }
+    if pair == letters_for(Word::Start) {
+        return Some(Letters::One(Word::Start));
+    }
+    if pair == letters_for(Word::Stop) {
+        return Some(Letters::One(Word::Stop));
+    }
+    if pair == letters_for(Word::TotalClear) {
+        return Some(Letters::One(Word::TotalClear));
+    }
+    if pair == letters_for(Word::Undo) {
+        return Some(Letters::One(Word::Undo));
+    }
+    if pair == letters_for(Word::DayClose) {
+        return Some(Letters::One(Word::DayClose));
+    }
+    if pair == letters_for(Word::Discharge) {
+        return Some(Letters::One(Word::Discharge));
+    }
     if pair == SET_LETTERS {
         return Some(Letters::Set);
     }
-    let w = word_of(&WORDS, pair)?;
-    Some(Letters::One(w))
+    None
 }

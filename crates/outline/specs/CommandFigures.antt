@@ -133,7 +133,15 @@ pub record Commanded : Type 0 where
   pub dc_day : closed_values day_close.answer.closed ≡ pos 0 ∷ pos 90 ∷ pos 30 ∷ pos 0 ∷ pos 60 ∷ []
   pub dc-next-day :
       day_close.state.book
-      ≡ record { begun = true; contact = false; opening = pos 60; last = pos 60; refilled = pos 0; used = pos 0; unbooked = pos 0;
-        ticks = 0 }
+      ≡ record {
+        begun = true;
+        contact = false;
+        opening = pos 60;
+        last = pos 60;
+        refilled = pos 0;
+        used = pos 0;
+        unbooked = pos 0;
+        ticks = 0;
+      }
   pub dc_booked : booked (after two_booked (pos 20) "DC") ≡ 3 ∷ 2 ∷ []
   pub dc_then_ca : said (after two_booked (pos 20) "DC") (pos 20) "CA" ≡ 0 ∷ line "CA"

@@ -7,8 +7,16 @@ use Rattle.outline.specs.Limits.{day_ticks, book_limit}
 
 -- no good tick yet; opening and last are answered as 0, and no closed contact is noted
 abbrev pub open_book : Book
-open_book = record { begun = false; contact = false; opening = pos 0; last = pos 0; refilled = pos 0; used = pos 0; unbooked = pos 0;
-      ticks = 0 }
+open_book = record {
+  begun = false;
+  contact = false;
+  opening = pos 0;
+  last = pos 0;
+  refilled = pos 0;
+  used = pos 0;
+  unbooked = pos 0;
+  ticks = 0;
+}
 
 -- A guard: a sum is held between the limit and minus the limit. No run gets that far.
 unfoldable pub limit_of : ℤ → ℤ
@@ -84,5 +92,13 @@ book_of b (Some raw) contact = cond b.begun (later_good b raw contact) (first_go
 -- day close".
 unfoldable pub closed_of : Book → Book
 closed_of b =
-    record { begun = b.begun; contact = b.contact; opening = b.last; last = b.last; refilled = pos 0; used = pos 0; unbooked = pos 0;
-      ticks = 0 }
+    record {
+      begun = b.begun;
+      contact = b.contact;
+      opening = b.last;
+      last = b.last;
+      refilled = pos 0;
+      used = pos 0;
+      unbooked = pos 0;
+      ticks = 0;
+    }

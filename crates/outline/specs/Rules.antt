@@ -97,8 +97,15 @@ pub record Refused : Type 0 where
 abbrev pub judged : ℕ → ℕ → ℕ → ℤ → List Answer
 judged f over under count =
     answers settings_a
-    (leg 1 (pos 0) (Some (request.Set (record { target = f; fall = f; preliminary = 0; optional = 0; over = over; under = under;
-      near = 0 })))
+    (leg 1 (pos 0) (Some (request.Set (record {
+      target = f;
+      fall = f;
+      preliminary = 0;
+      optional = 0;
+      over = over;
+      under = under;
+      near = 0;
+    })))
     ∷ leg 1 (minus 100) (Some request.Start) ∷ leg 2 (minus 100) None ∷ leg 103 count None ∷ [])
     open_state
 
@@ -205,8 +212,16 @@ pub record Booked : Type 0 where
   pub unbooked : (book_of (late_book 8640000) (Some (pos 90)) true).unbooked ≡ pos 10
   pub bad_counts : (book_of (late_book 8639999) None false).ticks ≡ day_ticks
   pub next_day : closed_of (late_book 5)
-      ≡ record { begun = true; contact = false; opening = pos 100; last = pos 100; refilled = pos 0; used = pos 0; unbooked = pos 0;
-        ticks = 0 }
+      ≡ record {
+        begun = true;
+        contact = false;
+        opening = pos 100;
+        last = pos 100;
+        refilled = pos 0;
+        used = pos 0;
+        unbooked = pos 0;
+        ticks = 0;
+      }
   -- near zero of 0: on at 0, off above, off in a bad tick
   pub near : (told settings_a open_state (pos 4) None).near ≡ true
   pub near_above : (told settings_a open_state (pos 5) None).near ≡ false

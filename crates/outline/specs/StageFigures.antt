@@ -76,8 +76,15 @@ abbrev pub judged_at : ℤ → ℕ
 judged_at count =
     judgement_number
     (state_after settings10
-    (leg 1 (minus 100) (Some (request.Set (record { target = 10; fall = 10; preliminary = 0; optional = 0; over = 1; under = 3;
-      near = 0 })))
+    (leg 1 (minus 100) (Some (request.Set (record {
+      target = 10;
+      fall = 10;
+      preliminary = 0;
+      optional = 0;
+      over = 1;
+      under = 3;
+      near = 0;
+    })))
     ∷ leg 1 (minus 100) (Some request.Start) ∷ leg 1 (minus 100) None ∷ leg 11 count None ∷ [])
     open_state).sequence.judgement
 

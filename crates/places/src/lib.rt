@@ -65,13 +65,12 @@ impl Placed for u16 {
     ghost read_as = { λ n. n };
 
     fn read_at(s: &[u8], at: usize) -> u16 {
-        u16::from_be_bytes([byte(s, at, 0), byte(s, at, 1)])
+        u16::from(byte(s, at, 0)) * 256 + u16::from(byte(s, at, 1))
     }
 
     fn put_at(self, s: &mut [u8], at: usize) {
-        let [high, low] = self.to_be_bytes();
-        put_byte(s, at, 0, high);
-        put_byte(s, at, 1, low);
+        put_byte(s, at, 0, (self / 256) as u8);
+        put_byte(s, at, 1, (self % 256) as u8);
     }
 }
 
@@ -84,21 +83,15 @@ impl Placed for u32 {
     ghost read_as = { λ n. n };
 
     fn read_at(s: &[u8], at: usize) -> u32 {
-        let bytes = [
-            byte(s, at, 0),
-            byte(s, at, 1),
-            byte(s, at, 2),
-            byte(s, at, 3),
-        ];
-        u32::from_be_bytes(bytes)
+        let high = u32::from(byte(s, at, 0)) * 256 + u32::from(byte(s, at, 1));
+        (high * 256 + u32::from(byte(s, at, 2))) * 256 + u32::from(byte(s, at, 3))
     }
 
     fn put_at(self, s: &mut [u8], at: usize) {
-        let [b0, b1, b2, b3] = self.to_be_bytes();
-        put_byte(s, at, 0, b0);
-        put_byte(s, at, 1, b1);
-        put_byte(s, at, 2, b2);
-        put_byte(s, at, 3, b3);
+        put_byte(s, at, 0, (self / 256 / 256 / 256) as u8);
+        put_byte(s, at, 1, (self / 256 / 256 % 256) as u8);
+        put_byte(s, at, 2, (self / 256 % 256) as u8);
+        put_byte(s, at, 3, (self % 256) as u8);
     }
 }
 
@@ -111,29 +104,14 @@ impl Placed for u64 {
     ghost read_as = { λ n. n };
 
     fn read_at(s: &[u8], at: usize) -> u64 {
-        let bytes = [
-            byte(s, at, 0),
-            byte(s, at, 1),
-            byte(s, at, 2),
-            byte(s, at, 3),
-            byte(s, at, 4),
-            byte(s, at, 5),
-            byte(s, at, 6),
-            byte(s, at, 7),
-        ];
-        u64::from_be_bytes(bytes)
+        let high = u32::read_at(s, at);
+        let low = u32::read_at(s, at.saturating_add(4));
+        u64::from(high) * 4_294_967_296 + u64::from(low)
     }
 
     fn put_at(self, s: &mut [u8], at: usize) {
-        let [b0, b1, b2, b3, b4, b5, b6, b7] = self.to_be_bytes();
-        put_byte(s, at, 0, b0);
-        put_byte(s, at, 1, b1);
-        put_byte(s, at, 2, b2);
-        put_byte(s, at, 3, b3);
-        put_byte(s, at, 4, b4);
-        put_byte(s, at, 5, b5);
-        put_byte(s, at, 6, b6);
-        put_byte(s, at, 7, b7);
+        ((self / 4_294_967_296) as u32).put_at(s, at);
+        ((self % 4_294_967_296) as u32).put_at(s, at.saturating_add(4));
     }
 }
 

@@ -7,7 +7,7 @@ ghost use Rattle.outline.specs.Replies.{prefix_text, reply_text, written_of};
 ghost use Rattle.replies.specs.Put.{Put};
 ghost use Rattle.replies.specs.Wrote.{wrote_of};
 
-use crate::put::put_bytes;
+use crate::put::{put_byte, put_bytes};
 use crate::text::{put_text, text_length};
 use commands::prefix::prefix_length;
 use types::lines::Reply;
@@ -33,11 +33,9 @@ fn put_prefix(buffer: &mut [u8], address: u8) -> usize
     if address == 0 {
         return 0;
     }
-    put_bytes(
-        buffer,
-        0,
-        &[b'@', b'0' + address / 10 % 10, b'0' + address % 10],
-    )
+    let n = put_byte(buffer, 0, b'@');
+    let n = put_byte(buffer, n, b'0' + address / 10 % 10);
+    put_byte(buffer, n, b'0' + address % 10)
 }
 
 // The reply due to a line: prefix, text and CR LF. Where none is due nothing is written, so that it fits any buffer. It answers how many

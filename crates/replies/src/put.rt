@@ -1,6 +1,6 @@
 // The smallest writers: each puts its bytes into a place of the lent buffer and answers the place behind them. But for the public one, the
 // caller has seen to the room. A struct of buffer and place would make no contract shorter: each would name the same values by its fields.
-ghost use Rattle.std.specs.Prelude.{◌≡◌, ◌+◌, ◌≤◌, length};
+ghost use Rattle.std.specs.Prelude.{◌≡◌, ◌+◌, ◌≤◌, length, ◌∷◌, []};
 ghost use Rattle.outline.specs.Replies.{digits_of, letters_text};
 ghost use Rattle.replies.specs.Put.{Put, put_in, place_in};
 
@@ -40,10 +40,19 @@ pub(crate) fn put_bytes(buffer: &mut [u8], at: usize, bytes: &[u8]) -> usize
     end
 }
 
+pub(crate) fn put_byte(buffer: &mut [u8], at: usize, byte: u8) -> usize
+    requires { at + 1 ≤ length buffer.old }
+    ensures { Put buffer.old at (byte ∷ []) buffer.new result 1 }
+{
+    buffer[at] = byte;
+    at + 1
+}
+
 // Two letters that come as one number, the first of them above.
 pub(crate) fn put_letters(buffer: &mut [u8], at: usize, letters: u16) -> usize
     requires { at + 2 ≤ length buffer.old }
     ensures { Put buffer.old at (letters_text letters) buffer.new result 2 }
 {
-    put_bytes(buffer, at, &letters.to_be_bytes())
+    let n = put_byte(buffer, at, (letters / 256) as u8);
+    put_byte(buffer, n, (letters % 256) as u8)
 }

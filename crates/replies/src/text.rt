@@ -4,7 +4,7 @@ ghost use Rattle.outline.specs.Replies.{sign_byte, amount_text, weight_text, tot
 ghost use Rattle.replies.specs.Put.{Put};
 ghost use Rattle.outline.specs.Texts.{text_of, text_length};
 
-use crate::put::{put_bytes, put_digits, put_letters};
+use crate::put::{put_byte, put_bytes, put_digits, put_letters};
 use types::lines::{Reply, Shown};
 use types::stages::Setpoints;
 
@@ -77,7 +77,7 @@ fn put_amount(buffer: &mut [u8], at: usize, w: Shown) -> usize
     if w.fit {
         put_digits(buffer, at, AMOUNT_DIGITS, w.amount)
     } else {
-        put_bytes(buffer, at, &[b' '; AMOUNT_DIGITS])
+        put_bytes(buffer, at, b"       ")
     }
 }
 
@@ -89,7 +89,8 @@ fn put_weight(buffer: &mut [u8], at: usize, w: Shown) -> usize
     let n = put_letters(buffer, at, status_letters(w));
     let n = put_bytes(buffer, n, b",");
     let n = put_letters(buffer, n, display_letters(w));
-    let n = put_bytes(buffer, n, &[b',', sign_byte(w)]);
+    let n = put_byte(buffer, n, b',');
+    let n = put_byte(buffer, n, sign_byte(w));
     let n = put_amount(buffer, n, w);
     put_letters(buffer, n, KG)
 }

@@ -5,7 +5,9 @@ ghost use Rattle.std.specs.Prelude.{◌≡◌, true};
 ghost use Rattle.outline.specs.Settings.{settings_fit, mode_of, board_of, settings_of, open_of};
 
 use types::analog::Board;
-use types::settings::{Batching, Calibration, Discharging, Given, Mode, Range, Settings, Steadiness, Tracking};
+use types::settings::{
+    Batching, Calibration, Discharging, Given, Mode, Range, Settings, Steadiness, Tracking,
+};
 
 mod ranges;
 

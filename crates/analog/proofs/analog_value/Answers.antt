@@ -1,11 +1,10 @@
 -- Each way out has its value (`value-..`); the value's number and the values beside it follow from that.
-use Rattle.std.proofs.Common.{rules, ◌≡◌, sym, ◌∙◌, ap, Bool, true, false, Some, None, Option}
+use Rattle.std.proofs.Common.{◌≡◌, ◌∙◌, ap, Bool, true, Some, Option}
 use Rattle.std.specs.Prelude.{ℤ}
 use mir.Facts.{to_z-of_z}
 use lib.Ieee.{Float, binary64, sub}
 use Rattle.types.specs.declared.analog.Scale.{Scale}
 use Rattle.types.specs.declared.analog.Board.{Board}
-use Rattle.types.specs.declared.analog.Analog.{Analog}
 use Rattle.types.specs.declared.analog.Board.TheVariants.{Current, Voltage}
 use Rattle.outline.specs.Analog.{f64, clip_of, distance_of, on_board, analog_of}
 use Rattle.outline.specs.Numbers.{analog_number, analog_values}

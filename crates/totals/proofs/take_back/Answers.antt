@@ -1,4 +1,3 @@
-use Rattle.std.proofs.Common.{rules, ◌≡◌}
 use Rattle.outline.specs.Totals.{taken_back}
 use Rattle.totals.proofs.take_back.Goals as goal
 

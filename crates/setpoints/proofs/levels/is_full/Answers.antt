@@ -1,5 +1,4 @@
 -- Off in an unfit tick and in mode 1; else full against gross.
-use Rattle.std.proofs.Common.{rules, ◌≡◌}
 use native.Mathlib.Omega.{arith}
 use lib.Signed.{lt_z}
 use mir.Syntax.{w32, w64}
