@@ -2,8 +2,6 @@
 -- numerals
 pub mod NumberLaws
 pub mod RunLaws
--- pieces
-mod Turns
 -- pairs and tickets
 pub mod DecimalLaws
 pub mod TextLaws

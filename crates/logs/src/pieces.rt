@@ -25,15 +25,15 @@ pub(crate) fn next_lf(piece: &[u8], from: usize) -> usize
 }
 
 // Brings the bytes held from a place on to the start of the buffer, so that it can be read on behind them, and tells how many there are.
-// Bytes that they do not cover stay. They are moved one by one: the library has no copy within a slice.
+// Bytes that they do not cover stay.
 #[tactic(auto, unfolding(outline::specs::Log::kept_in))]
 pub fn keep(space: &mut [u8], from: usize, all: usize) -> usize
     ensures count { result ≡ length (between space.old from all) }
     ensures bytes { space.new ≡ kept_in space.old from all }
 {
     let kept = part(space, from, all).len();
-    for i in 0..kept {
-        space[i] = space[from + i];
+    if 0 < kept {
+        space.copy_within(from..from + kept, 0);
     }
     kept
 }
