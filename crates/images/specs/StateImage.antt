@@ -166,11 +166,11 @@ panel_numbers p = display_number p.display ∷ []
 abbrev pub panel_of : List ℕ → Panel
 panel_of ns = record { display = display_of (get_or ns 0 0) }
 
--- ---- setpoints in use: F, FF, P, OP, over, under, near zero
--- seven numbers of four bytes, one behind the other: so setpoints stand, in use and waiting
+-- ---- seven numbers of four bytes, one behind the other: so setpoints stand, in use and waiting
 abbrev pub seven_rows : ℕ → List Place
 seven_rows at = row at 4 ∷ row (at + 4) 4 ∷ row (at + 8) 4 ∷ row (at + 12) 4 ∷ row (at + 16) 4 ∷ row (at + 20) 4 ∷ row (at + 24) 4 ∷ []
 
+-- ---- setpoints in use: F, FF, P, OP, over, under, near zero
 abbrev pub setpoint_rows : List Place
 setpoint_rows = row 60 4 ∷ row 64 4 ∷ row 68 4 ∷ row 72 4 ∷ row 76 4 ∷ row 80 4 ∷ row 84 4 ∷ []
 

@@ -1,6 +1,7 @@
 // The parts of a state at their places in its image: read, whatever the bytes are, and written. The tables are those of
 // specs/StateImage.antt. Each asks for the length before its first byte, so that the compiler reads a number in one piece. An earlier image
 // is read too; a shorter buffer holds no state and reads as the opening's. Only a buffer of the present length is written.
+// The opening's values stand here once more: a default would belong to the types, and the crates that open a state are not below this one.
 ghost use Rattle.std.specs.Prelude.{◌≡◌, ◌≤◌, Some, None};
 ghost use Rattle.places.specs.Places.{get_all, put_all};
 ghost use Rattle.images.specs.StateImage.{state_length, state_at, book_rows, book_numbers, stability_rows, stability_numbers};

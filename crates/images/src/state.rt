@@ -21,7 +21,6 @@ fn is_flag(n: u8) -> bool
 
 // Whether the state that was read has the numbers at its places again: a flag is 0 or 1, a name's number names it, and a value without use
 // is 0. Every other number is read as it stands.
-#[tactic(auto, using(crate::proofs::Read::whole))]
 fn is_read_whole(s: &[u8], q: Sequence, t: Totals) -> bool
     requires q_value { q ≡ (state_at s.now).sequence }
     requires t_value { t ≡ (state_at s.now).totals }

@@ -14,6 +14,7 @@ fn byte(s: &[u8], at: usize, i: usize) -> u8
     s.get(at.saturating_add(i)).copied().unwrap_or(0)
 }
 
+// No `get_mut`: what it promises of the slice where it gives nothing is too little here.
 #[tactic(auto, using(std::proofs::lemmas::List::set_past))]
 fn put_byte(s: &mut [u8], at: usize, i: usize, b: u8)
     ensures { s.new ≡ set s.old (at + i) b }
