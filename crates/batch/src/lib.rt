@@ -22,16 +22,16 @@ mod stages;
 pub fn advance(
     b: Batching,
     p: Setpoints,
-    q: &Sequence,
+    q: Sequence,
     unfit: bool,
     v: i64,
     stable: bool,
     gross: i32,
 ) -> Advanced
-    ensures { result ≡ advance_of b p q.now (facts_at p unfit stable v gross) }
+    ensures { result ≡ advance_of b p q (facts_at p unfit stable v gross) }
 {
-    let q = *q;
-    if is_idle(q.stage) {
+    let stage = q.stage;
+    if is_idle(stage) {
         return Advanced {
             sequence: q,
             finished: false,
@@ -40,7 +40,7 @@ pub fn advance(
     if unfit {
         return fail(q, SequenceError::BadWeight);
     }
-    if is_discharging(q.stage) {
+    if is_discharging(stage) {
         return discharged(b, p, q, gross);
     }
     batched(b, p, q, v, stable)

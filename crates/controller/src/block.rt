@@ -42,7 +42,7 @@ pub fn run_block(s: Settings, mut st: State, counts: &[i32], contact: bool) -> B
             let after = batch::advance(
                 s.batching,
                 points,
-                &st.sequence,
+                st.sequence,
                 unfit,
                 v,
                 x.stable,

@@ -18,7 +18,7 @@ pub(crate) fn step(s: Settings, st: &mut State, x: Weights)
     let after = batch::advance(
         s.batching,
         st.setpoints,
-        &st.sequence,
+        st.sequence,
         unfit,
         v,
         x.stable,
