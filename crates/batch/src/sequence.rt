@@ -9,13 +9,13 @@ use types::stages::{Judgement, Sequence, SequenceError, Stage};
 
 // A sequence that enters the stage, with no error and no judgement.
 fn fresh(stage: Stage) -> Sequence
-    ensures { result ≡ (record { stage = stage; clock = 0; error = None; judgement = None }) }
+    ensures { result ≡ (record { stage = stage; clock = 0; error = SequenceError.None; judgement = Judgement.None }) }
 {
     Sequence {
         stage,
         clock: 0,
-        error: None,
-        judgement: None,
+        error: SequenceError::None,
+        judgement: Judgement::None,
     }
 }
 
@@ -56,7 +56,7 @@ pub(crate) fn failed(q: Sequence, e: SequenceError) -> Sequence
     Sequence {
         stage: Stage::Idle,
         clock: 0,
-        error: Some(e),
+        error: e,
         judgement: q.judgement,
     }
 }

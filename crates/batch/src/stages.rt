@@ -38,14 +38,14 @@ pub(crate) fn to(q: Sequence, clock: u16, stage: Stage) -> Advanced
 
 // A batch finishes.
 fn finish(q: Sequence, judgement: Judgement) -> Advanced
-    ensures { result ≡ (record { sequence = record { stage = Stage.Idle; clock = 0; error = q.error; judgement = Some judgement }; finished = true }) }
+    ensures { result ≡ (record { sequence = record { stage = Stage.Idle; clock = 0; error = q.error; judgement = judgement }; finished = true }) }
 {
     Advanced {
         sequence: Sequence {
             stage: Stage::Idle,
             clock: 0,
             error: q.error,
-            judgement: Some(judgement),
+            judgement,
         },
         finished: true,
     }

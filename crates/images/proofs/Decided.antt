@@ -256,25 +256,25 @@ clock_none false true n m c h k = absurd (clash refl k)
 clock_none false false n m c h k = omega arith
 
 -- errors and judgements
-error_none : (e : Option SequenceError) → eqb (error_number e) 0 ≡ true → e ≡ None
+error_none : (e : SequenceError) → eqb (error_number e) 0 ≡ true → e ≡ None
 unfolding error_of
 error_none e h = sym (error_back e) ∙ ap error_of (eqb-true (error_number e) 0 h)
 
-judgement_none : (j : Option Judgement) → eqb (judgement_number j) 0 ≡ true → j ≡ None
+judgement_none : (j : Judgement) → eqb (judgement_number j) 0 ≡ true → j ≡ None
 unfolding judgement_of
 judgement_none j h = sym (judgement_back j) ∙ ap judgement_of (eqb-true (judgement_number j) 0 h)
 
-of_discharge_lem : (d : Bool) (e : Option SequenceError) → d || eqb (error_number e) 7 || eqb (error_number e) 8 ≡ d || of_discharge e
+of_discharge_lem : (d : Bool) (e : SequenceError) → d || eqb (error_number e) 7 || eqb (error_number e) 8 ≡ d || of_discharge e
 of_discharge_lem true e = refl
 of_discharge_lem false None = refl
-of_discharge_lem false (Some error.NoFinal) = refl
-of_discharge_lem false (Some error.Reached) = refl
-of_discharge_lem false (Some error.Stopped) = refl
-of_discharge_lem false (Some error.FlowTime) = refl
-of_discharge_lem false (Some error.BadWeight) = refl
-of_discharge_lem false (Some error.NotBooked) = refl
-of_discharge_lem false (Some error.DischargeStopped) = refl
-of_discharge_lem false (Some error.DischargeTime) = refl
+of_discharge_lem false error.NoFinal = refl
+of_discharge_lem false error.Reached = refl
+of_discharge_lem false error.Stopped = refl
+of_discharge_lem false error.FlowTime = refl
+of_discharge_lem false error.BadWeight = refl
+of_discharge_lem false error.NotBooked = refl
+of_discharge_lem false error.DischargeStopped = refl
+of_discharge_lem false error.DischargeTime = refl
 
 -- the mode
 normal_passes : (m : Mode) (d e : Bool) → (d ≡ true → m ≡ mode.Normal) → (e ≡ true → m ≡ mode.Normal) → is_normal m || not (d || e) ≡ true
@@ -314,10 +314,10 @@ module _ (b : Batching) (q : Sequence) where
   sequence_passes r =
       let most = clock_most (flowing_of q.stage) (emptying_of q.stage) b.flow b.discharge.limit q.clock r.flow_clock r.discharge_clock r.unclocked in
       let clock = subst (λ (n : ℕ). q.clock ≤ n) (sym (told b q.stage).flow) most in
-      let no_error_lem = either (idle_of q.stage) (eqb (error_number q.error) 0) (λ k. ap (λ (e : Option SequenceError). eqb (error_number e) 0) (r.no_error_lem k)) in
+      let no_error_lem = either (idle_of q.stage) (eqb (error_number q.error) 0) (λ k. ap (λ (e : SequenceError). eqb (error_number e) 0) (r.no_error_lem k)) in
       let no_judgement =
       either (idle_of q.stage || discharging_of q.stage) (eqb (judgement_number q.judgement) 0)
-      (λ k. ap (λ (j : Option Judgement). eqb (judgement_number j) 0) (r.no_judgement k)) in
+      (λ k. ap (λ (j : Judgement). eqb (judgement_number j) 0) (r.no_judgement k)) in
       let normal = normal_passes b.mode (discharging_of q.stage) (of_discharge q.error) r.normal r.normal_error in
       by_stage
       ∙ linked (ltb (stage_timer q.stage) (max (time_of b number) 1)) sequenceTests (timer_passes b q.stage r.timer)

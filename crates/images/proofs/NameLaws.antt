@@ -73,41 +73,41 @@ stage_lt (DischargeStart t) = omega arith
 stage_lt Discharge = omega arith
 stage_lt (DischargeEnd t) = omega arith
 
-pub error_back : (e : Option SequenceError) → error_of (error_number e) ≡ e
+pub error_back : (e : SequenceError) → error_of (error_number e) ≡ e
 unfolding error_of
-error_back None = refl
-error_back (Some error.NoFinal) = refl
-error_back (Some error.Reached) = refl
-error_back (Some error.Stopped) = refl
-error_back (Some error.FlowTime) = refl
-error_back (Some error.BadWeight) = refl
-error_back (Some error.NotBooked) = refl
-error_back (Some error.DischargeStopped) = refl
-error_back (Some error.DischargeTime) = refl
+error_back error.None = refl
+error_back error.NoFinal = refl
+error_back error.Reached = refl
+error_back error.Stopped = refl
+error_back error.FlowTime = refl
+error_back error.BadWeight = refl
+error_back error.NotBooked = refl
+error_back error.DischargeStopped = refl
+error_back error.DischargeTime = refl
 
-pub error_lt : (e : Option SequenceError) → error_number e < 256
-error_lt None = omega arith
-error_lt (Some error.NoFinal) = omega arith
-error_lt (Some error.Reached) = omega arith
-error_lt (Some error.Stopped) = omega arith
-error_lt (Some error.FlowTime) = omega arith
-error_lt (Some error.BadWeight) = omega arith
-error_lt (Some error.NotBooked) = omega arith
-error_lt (Some error.DischargeStopped) = omega arith
-error_lt (Some error.DischargeTime) = omega arith
+pub error_lt : (e : SequenceError) → error_number e < 256
+error_lt error.None = omega arith
+error_lt error.NoFinal = omega arith
+error_lt error.Reached = omega arith
+error_lt error.Stopped = omega arith
+error_lt error.FlowTime = omega arith
+error_lt error.BadWeight = omega arith
+error_lt error.NotBooked = omega arith
+error_lt error.DischargeStopped = omega arith
+error_lt error.DischargeTime = omega arith
 
-pub judgement_back : (j : Option Judgement) → judgement_of (judgement_number j) ≡ j
+pub judgement_back : (j : Judgement) → judgement_of (judgement_number j) ≡ j
 unfolding judgement_of
-judgement_back None = refl
-judgement_back (Some judgement.Ok) = refl
-judgement_back (Some judgement.Over) = refl
-judgement_back (Some judgement.Under) = refl
+judgement_back judgement.None = refl
+judgement_back judgement.Ok = refl
+judgement_back judgement.Over = refl
+judgement_back judgement.Under = refl
 
-pub judgement_lt : (j : Option Judgement) → judgement_number j < 256
-judgement_lt None = omega arith
-judgement_lt (Some judgement.Ok) = omega arith
-judgement_lt (Some judgement.Over) = omega arith
-judgement_lt (Some judgement.Under) = omega arith
+pub judgement_lt : (j : Judgement) → judgement_number j < 256
+judgement_lt judgement.None = omega arith
+judgement_lt judgement.Ok = omega arith
+judgement_lt judgement.Over = omega arith
+judgement_lt judgement.Under = omega arith
 
 -- the batch that can be taken back, with its weight
 pub back_back : (b : Option ℕ) → back_of (back_tag b) (back_weight b) ≡ b

@@ -246,7 +246,7 @@ module _ (l : List ℕ) (b : Bytes l) where
   abbrev name : ℕ → ℕ → ℕ → Row
   name x n at = test x (be_at n l at) (eqb x (be_at n l at)) refl
 
-  abbrev rows : Stage → Option SequenceError → Option Judgement → Option ℕ → List Row
+  abbrev rows : Stage → SequenceError → Judgement → Option ℕ → List Row
   rows g e j v =
       narrow 0 ∷ narrow 4 ∷ broad 8 ∷ broad 16 ∷ broad 24 ∷ plain 4 32 ∷ flag 36 ∷ flag 37
       ∷ flag 40 ∷ plain 2 42

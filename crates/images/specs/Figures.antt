@@ -73,7 +73,7 @@ mid = record {
   panel = record { display = display.Net };
   setpoints = record { target = 30000; fall = 200; preliminary = 5000; optional = 25000; over = 100; under = 150; near = 400 };
   waiting = waiting_for (record { target = 70000; fall = 301; preliminary = 6000; optional = 45000; over = 258; under = 7; near = 1000 });
-  sequence = record { stage = stage.MediumDisable 299; clock = 4660; error = None; judgement = None };
+  sequence = record { stage = stage.MediumDisable 299; clock = 4660; error = error.None; judgement = judgement.None };
   totals = record { total = 99999999; count = 12345678; back = Some 77777777 };
 }
 
@@ -110,7 +110,7 @@ feeding = record {
   panel = record { display = display.Net };
   setpoints = record { target = 999999; fall = 0; preliminary = 1; optional = 0; over = 999999; under = 0; near = 999999 };
   waiting = none_waiting;
-  sequence = record { stage = stage.SmallFlow; clock = 6000; error = None; judgement = None };
+  sequence = record { stage = stage.SmallFlow; clock = 6000; error = error.None; judgement = judgement.None };
   totals = record { total = 0; count = 0; back = None };
 }
 
@@ -138,7 +138,7 @@ idle = record {
   panel = record { display = display.Gross };
   setpoints = record { target = 1000; fall = 20; preliminary = 0; optional = 300; over = 5; under = 5; near = 10 };
   waiting = none_waiting;
-  sequence = record { stage = stage.Idle; clock = 0; error = None; judgement = Some judgement.Ok };
+  sequence = record { stage = stage.Idle; clock = 0; error = error.None; judgement = judgement.Ok };
   totals = record { total = 123456; count = 3; back = Some 1003 };
 }
 
@@ -168,7 +168,7 @@ failed = record {
   panel = record { display = display.Gross };
   setpoints = record { target = 5000; fall = 20; preliminary = 0; optional = 300; over = 5; under = 5; near = 100 };
   waiting = none_waiting;
-  sequence = record { stage = stage.Idle; clock = 0; error = Some error.DischargeTime; judgement = Some judgement.Under };
+  sequence = record { stage = stage.Idle; clock = 0; error = error.DischargeTime; judgement = judgement.Under };
   totals = record { total = 4990; count = 1; back = Some 4990 };
 }
 
@@ -196,7 +196,7 @@ light = record {
   panel = record { display = display.Gross };
   setpoints = record { target = 1; fall = 0; preliminary = 0; optional = 0; over = 0; under = 0; near = 0 };
   waiting = none_waiting;
-  sequence = record { stage = stage.Idle; clock = 0; error = None; judgement = Some judgement.Ok };
+  sequence = record { stage = stage.Idle; clock = 0; error = error.None; judgement = judgement.Ok };
   totals = record { total = 0; count = 1; back = Some 0 };
 }
 
@@ -223,7 +223,7 @@ unweighed = record {
   panel = record { display = display.Net };
   setpoints = record { target = 1000; fall = 20; preliminary = 0; optional = 0; over = 0; under = 0; near = 0 };
   waiting = none_waiting;
-  sequence = record { stage = stage.Idle; clock = 0; error = None; judgement = None };
+  sequence = record { stage = stage.Idle; clock = 0; error = error.None; judgement = judgement.None };
   totals = record { total = 0; count = 0; back = None };
 }
 
@@ -307,7 +307,7 @@ weighs st zero tracked tare counter = record {
   totals = st.totals;
 }
 
-abbrev pub stands : State → Stage → ℕ → Option SequenceError → Option Judgement → State
+abbrev pub stands : State → Stage → ℕ → SequenceError → Judgement → State
 stands st g clock e j = record {
   book = st.book;
   stability = st.stability;
@@ -423,27 +423,27 @@ pub record Judged : Type 0 where
   pub run_over : under given_a (steady idle true 101) ≡ false
   pub batch_after_bad : under given_b (steady mid false 0) ≡ false
   pub good_unbegun : under given_a (steady unweighed true 0) ≡ false
-  pub timer_most : under given_b (stands mid (stage.MediumDisable 299) 4660 None None) ≡ true
-  pub timer_over : under given_b (stands mid (stage.MediumDisable 300) 4660 None None) ≡ false
-  pub timer_of_0 : under given_a (stands feeding (stage.SmallDisable 0) 6000 None None) ≡ true
-  pub timer_of_0_over : under given_a (stands feeding (stage.SmallDisable 1) 6000 None None) ≡ false
-  pub clock_over : under given_a (stands feeding (stage.SmallFlow) 6001 None None) ≡ false
-  pub judgement_in_a_batch : under given_a (stands feeding (stage.SmallFlow) 6000 None (Some judgement.Ok)) ≡ false
-  pub stopped_discharge : under given_a (stands failed (stage.Idle) 0 (Some error.DischargeStopped) (Some judgement.Under)) ≡ true
+  pub timer_most : under given_b (stands mid (stage.MediumDisable 299) 4660 error.None judgement.None) ≡ true
+  pub timer_over : under given_b (stands mid (stage.MediumDisable 300) 4660 error.None judgement.None) ≡ false
+  pub timer_of_0 : under given_a (stands feeding (stage.SmallDisable 0) 6000 error.None judgement.None) ≡ true
+  pub timer_of_0_over : under given_a (stands feeding (stage.SmallDisable 1) 6000 error.None judgement.None) ≡ false
+  pub clock_over : under given_a (stands feeding (stage.SmallFlow) 6001 error.None judgement.None) ≡ false
+  pub judgement_in_a_batch : under given_a (stands feeding (stage.SmallFlow) 6000 error.None judgement.Ok) ≡ false
+  pub stopped_discharge : under given_a (stands failed (stage.Idle) 0 error.DischargeStopped judgement.Under) ≡ true
   pub stopped_discharge_in_mode_2 :
-      under given_loss (stands failed (stage.Idle) 0 (Some error.DischargeStopped) (Some judgement.Under)) ≡ false
-  pub bad_weight_in_mode_2 : under given_loss (stands failed (stage.Idle) 0 (Some error.BadWeight) (Some judgement.Under)) ≡ true
-  pub discharging : under given_a (stands failed (stage.Discharge) 1 None (Some judgement.Under)) ≡ true
-  pub discharging_in_mode_2 : under given_loss (stands failed (stage.Discharge) 1 None (Some judgement.Under)) ≡ false
-  pub error_in_a_discharge : under given_a (stands failed (stage.Discharge) 1 (Some error.DischargeTime) (Some judgement.Under)) ≡ false
-  pub discharge_clock_over : under given_a (stands failed (stage.Discharge) 2 None (Some judgement.Under)) ≡ false
-  pub delay_with_a_clock : under given_a (stands failed (stage.DischargeStart 0) 1 None (Some judgement.Under)) ≡ false
-  pub large_flow : under given_a (stands failed (stage.LargeDisable 0) 1 None None) ≡ true
-  pub medium_flow_without_p : under given_a (stands failed (stage.MediumDisable 0) 1 None None) ≡ false
-  pub large_flow_without_op : under given_a (aims (stands failed (stage.LargeDisable 0) 1 None None) (points 5000 20 0 0))
+      under given_loss (stands failed (stage.Idle) 0 error.DischargeStopped judgement.Under) ≡ false
+  pub bad_weight_in_mode_2 : under given_loss (stands failed (stage.Idle) 0 error.BadWeight judgement.Under) ≡ true
+  pub discharging : under given_a (stands failed (stage.Discharge) 1 error.None judgement.Under) ≡ true
+  pub discharging_in_mode_2 : under given_loss (stands failed (stage.Discharge) 1 error.None judgement.Under) ≡ false
+  pub error_in_a_discharge : under given_a (stands failed (stage.Discharge) 1 error.DischargeTime judgement.Under) ≡ false
+  pub discharge_clock_over : under given_a (stands failed (stage.Discharge) 2 error.None judgement.Under) ≡ false
+  pub delay_with_a_clock : under given_a (stands failed (stage.DischargeStart 0) 1 error.None judgement.Under) ≡ false
+  pub large_flow : under given_a (stands failed (stage.LargeDisable 0) 1 error.None judgement.None) ≡ true
+  pub medium_flow_without_p : under given_a (stands failed (stage.MediumDisable 0) 1 error.None judgement.None) ≡ false
+  pub large_flow_without_op : under given_a (aims (stands failed (stage.LargeDisable 0) 1 error.None judgement.None) (points 5000 20 0 0))
       ≡ false
-  pub start_without_f : under given_a (aims (stands failed (stage.StartDelay 0) 0 None None) (points 0 0 0 0)) ≡ true
-  pub flow_without_f : under given_a (aims (stands failed (stage.SmallDisable 0) 0 None None) (points 0 0 0 0)) ≡ false
+  pub start_without_f : under given_a (aims (stands failed (stage.StartDelay 0) 0 error.None judgement.None) (points 0 0 0 0)) ≡ true
+  pub flow_without_f : under given_a (aims (stands failed (stage.SmallDisable 0) 0 error.None judgement.None) (points 0 0 0 0)) ≡ false
   pub p_not_above_ff : under given_a (aims idle (points 1000 20 20 0)) ≡ false
   pub undo_most : under given_a (sums idle (record { total = 123456; count = 3; back = Some 123456 })) ≡ true
   pub undo_over : under given_a (sums idle (record { total = 123456; count = 3; back = Some 123457 })) ≡ false
@@ -453,5 +453,5 @@ pub record Judged : Type 0 where
   pub waiting_in_00 : under given_a (waits idle (points 1000 20 0 300)) ≡ false
   pub waiting_in_a_batch : under given_a (waits feeding (points 1000 20 0 300)) ≡ true
   pub waiting-in-a-discharge :
-      under given_a (waits (stands failed (stage.Discharge) 1 None (Some judgement.Under)) (points 1000 20 0 300)) ≡ true
+      under given_a (waits (stands failed (stage.Discharge) 1 error.None judgement.Under) (points 1000 20 0 300)) ≡ true
   pub waiting_p_not_above_ff : under given_a (waits feeding (points 1000 20 20 300)) ≡ false

@@ -73,19 +73,19 @@ stage_timer (stage.DischargeStart t) = t
 stage_timer stage.Discharge = 0
 stage_timer (stage.DischargeEnd t) = t
 
-unfoldable pub error_of : ℕ → Option SequenceError
+unfoldable pub error_of : ℕ → SequenceError
 error_of n =
-    cond (eqb n 1) (Some error.NoFinal)
-    (cond (eqb n 2) (Some error.Reached)
-    (cond (eqb n 4) (Some error.Stopped)
-    (cond (eqb n 6) (Some error.FlowTime)
-    (cond (eqb n 9) (Some error.BadWeight)
-    (cond (eqb n 10) (Some error.NotBooked)
-    (cond (eqb n 7) (Some error.DischargeStopped)
-    (cond (eqb n 8) (Some error.DischargeTime) None)))))))
+    cond (eqb n 1) error.NoFinal
+    (cond (eqb n 2) error.Reached
+    (cond (eqb n 4) error.Stopped
+    (cond (eqb n 6) error.FlowTime
+    (cond (eqb n 9) error.BadWeight
+    (cond (eqb n 10) error.NotBooked
+    (cond (eqb n 7) error.DischargeStopped
+    (cond (eqb n 8) error.DischargeTime None)))))))
 
-unfoldable pub judgement_of : ℕ → Option Judgement
-judgement_of n = cond (eqb n 1) (Some judgement.Ok) (cond (eqb n 2) (Some judgement.Over) (cond (eqb n 3) (Some judgement.Under) None))
+unfoldable pub judgement_of : ℕ → Judgement
+judgement_of n = cond (eqb n 1) judgement.Ok (cond (eqb n 2) judgement.Over (cond (eqb n 3) judgement.Under None))
 
 -- whether a batch can be taken back, and its weight, which is 0 where there is none (D113)
 unfoldable pub back_tag : Option ℕ → ℕ

@@ -66,30 +66,30 @@ pub(crate) fn stage_timer(stage: Stage) -> u16
 }
 
 #[tactic(auto, unfolding(crate::specs::StateImage::error_of))]
-pub(crate) fn error_of(n: u8) -> Option<SequenceError>
+pub(crate) fn error_of(n: u8) -> SequenceError
     ensures { result ≡ error_of n }
 {
     match n {
-        1 => Some(SequenceError::NoFinal),
-        2 => Some(SequenceError::Reached),
-        4 => Some(SequenceError::Stopped),
-        6 => Some(SequenceError::FlowTime),
-        7 => Some(SequenceError::DischargeStopped),
-        8 => Some(SequenceError::DischargeTime),
-        9 => Some(SequenceError::BadWeight),
-        10 => Some(SequenceError::NotBooked),
-        _ => None,
+        1 => SequenceError::NoFinal,
+        2 => SequenceError::Reached,
+        4 => SequenceError::Stopped,
+        6 => SequenceError::FlowTime,
+        7 => SequenceError::DischargeStopped,
+        8 => SequenceError::DischargeTime,
+        9 => SequenceError::BadWeight,
+        10 => SequenceError::NotBooked,
+        _ => SequenceError::None,
     }
 }
 
 #[tactic(auto, unfolding(crate::specs::StateImage::judgement_of))]
-pub(crate) fn judgement_of(n: u8) -> Option<Judgement>
+pub(crate) fn judgement_of(n: u8) -> Judgement
     ensures { result ≡ judgement_of n }
 {
     match n {
-        1 => Some(Judgement::Ok),
-        2 => Some(Judgement::Over),
-        3 => Some(Judgement::Under),
-        _ => None,
+        1 => Judgement::Ok,
+        2 => Judgement::Over,
+        3 => Judgement::Under,
+        _ => Judgement::None,
     }
 }

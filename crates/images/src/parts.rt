@@ -233,8 +233,8 @@ pub fn sequence_at(s: &[u8]) -> Sequence
         return Sequence {
             stage: Stage::Idle,
             clock: 0,
-            error: None,
-            judgement: None,
+            error: SequenceError::None,
+            judgement: Judgement::None,
         };
     }
     Sequence {

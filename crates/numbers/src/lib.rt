@@ -84,13 +84,11 @@ pub fn stage_number(stage: Stage) -> u8
     }
 }
 
-pub fn error_number(e: Option<SequenceError>) -> u8
+pub fn error_number(e: SequenceError) -> u8
     ensures { result ≡ error_number e }
 {
-    let Some(error) = e else {
-        return 0;
-    };
-    match error {
+    match e {
+        SequenceError::None => 0,
         SequenceError::NoFinal => 1,
         SequenceError::Reached => 2,
         SequenceError::Stopped => 4,
@@ -103,13 +101,11 @@ pub fn error_number(e: Option<SequenceError>) -> u8
 }
 
 // The numbers of a judgement are the house's.
-pub fn judgement_number(j: Option<Judgement>) -> u8
+pub fn judgement_number(j: Judgement) -> u8
     ensures { result ≡ judgement_number j }
 {
-    let Some(judgement) = j else {
-        return 0;
-    };
-    match judgement {
+    match j {
+        Judgement::None => 0,
         Judgement::Ok => 1,
         Judgement::Over => 2,
         Judgement::Under => 3,

@@ -21,11 +21,13 @@ use Rattle.outline.specs.Replies.{digits_of, weight_text, total_text, points_tex
 use Rattle.outline.specs.Parts.{with_sequence}
 use Rattle.outline.specs.Worked.{leg, shut, emptying}
 use Rattle.outline.specs.DischargeFigures.{settings_out, before, course_from, drained, Discharged, Requested}
+use Rattle.types.specs.declared.stages.SequenceError.TheVariants as error
+use Rattle.types.specs.declared.stages.Judgement.TheVariants as judgement
 
 -- `stopped_batch` written out: under its name its ticks are computed many times over
 stopped :
     course_from (settings_out 0 0 6000)
-    (with_sequence before (record { stage = stage.SmallDisable 0; clock = 0; error = None; judgement = None }))
+    (with_sequence before (record { stage = stage.SmallDisable 0; clock = 0; error = error.None; judgement = judgement.None }))
     (leg 1 (pos 0) (Some request.Stop) ∷ drained 1 2)
     ≡ record {
       stages = 0 ∷ 14 ∷ 15 ∷ 16 ∷ 0 ∷ [];

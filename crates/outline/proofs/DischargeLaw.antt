@@ -144,12 +144,12 @@ booked_keeps : (t : Totals) (v : ℤ) (q : Sequence) → (booked_sequence t v q)
 unfolding booked_sequence
 booked_keeps t v q = cond_in (λ (r : Sequence). r.judgement ≡ q.judgement) (bookable t v) (λ e. refl) (λ e. refl)
 
-finish_keeps : (t : Totals) (v : ℤ) (a : Advanced) (j : Option Judgement) → a.sequence.judgement ≡ j
+finish_keeps : (t : Totals) (v : ℤ) (a : Advanced) (j : Judgement) → a.sequence.judgement ≡ j
     → (cond a.finished (booked_sequence t v a.sequence) a.sequence).judgement ≡ j
 finish_keeps t v a j h = cond_in (λ (r : Sequence). r.judgement ≡ j) a.finished (λ e. booked_keeps t v a.sequence ∙ h) (λ e. h)
 
 -- steps 5 and 6, where step 4 leaves the judgement, and the discharge unless step 6 is passed over
-ended_keeps : (s : Settings) (a : Settled) (x : Weights) (j : Option Judgement) → a.state.sequence.judgement ≡ j
+ended_keeps : (s : Settings) (a : Settled) (x : Weights) (j : Judgement) → a.state.sequence.judgement ≡ j
     → (a.held ≡ false → discharging_of a.state.sequence.stage ≡ true) → (ended_of s a x).sequence.judgement ≡ j
 unfolding ended_of with_tracking stepped_of finished_of
 ended_keeps s a x j h d =

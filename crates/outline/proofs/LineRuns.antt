@@ -22,11 +22,12 @@ use Rattle.outline.specs.Run.{run_of, line_input}
 use Rattle.outline.specs.StaysTrue.{GatesShut, Ticket, LinesAreRuns}
 use Rattle.outline.specs.EveryLine.{GatesShutOnLine, TicketOnLine}
 use Rattle.outline.proofs.ReadBack.{told_done}
+use Rattle.types.specs.declared.stages.SequenceError.TheVariants as error
 
 -- ---- gates
 pub gates_on_line : GatesShut → LinesAreRuns → GatesShutOnLine
 gates_on_line law runs s ok h count contact receive buffer =
-    subst (λ (a : Answer). (a.error ≡ None → ⊥) → a.gates ≡ shut) (sym (runs s h count contact receive buffer).answer)
+    subst (λ (a : Answer). (a.error ≡ error.None → ⊥) → a.gates ≡ shut) (sym (runs s h count contact receive buffer).answer)
     (law s ok h (line_input s (run_of s h) count contact receive buffer))
 
 -- ---- the day that a DC closes

@@ -29,16 +29,16 @@ use Rattle.outline.specs.Requests.{ruling_of, done_of, granted_of, decided_of}
 use Rattle.outline.specs.Tick.{entered_of, settled_of, served_of, with_tracking, finished_of, stepped_of, ended_of, next_of, outputs_of, tick_of}
 use Rattle.whole.specs.Chains.{or_second}
 
-abbrev pub no_error : Option SequenceError → Bool
-no_error None = true
-no_error (Some error.NoFinal) = false
-no_error (Some error.Reached) = false
-no_error (Some error.Stopped) = false
-no_error (Some error.FlowTime) = false
-no_error (Some error.BadWeight) = false
-no_error (Some error.NotBooked) = false
-no_error (Some error.DischargeStopped) = false
-no_error (Some error.DischargeTime) = false
+abbrev pub no_error : SequenceError → Bool
+no_error error.None = true
+no_error error.NoFinal = false
+no_error error.Reached = false
+no_error error.Stopped = false
+no_error error.FlowTime = false
+no_error error.BadWeight = false
+no_error error.NotBooked = false
+no_error error.DischargeStopped = false
+no_error error.DischargeTime = false
 
 -- no error, or stage 00
 abbrev pub quiet_of : Sequence → Bool
@@ -53,7 +53,7 @@ cond_quiet true a b p q = p
 cond_quiet false a b p q = q
 
 failed_quiet : (q : Sequence) (e : SequenceError) → quiet_of (failed_of q e) ≡ true
-failed_quiet q e = or_second (no_error (Some e)) true refl
+failed_quiet q e = or_second (no_error e) true refl
 
 -- ---- step 4
 granted_quiet : (st : State) (x : Weights) (r : Option Request) → quiet_of st.sequence ≡ true → quiet_of (granted_of st x r).state.sequence ≡ true
@@ -114,7 +114,7 @@ unfolding booked_sequence
 quiet_finish t v a h = go a.finished (bookable t v) refl
   where
     go : (f b : Bool) → a.finished ≡ f →
-        quiet_of (cond f (cond b a.sequence (record { stage = a.sequence.stage; clock = a.sequence.clock; error = Some error.NotBooked; judgement = a.sequence.judgement })) a.sequence) ≡ true
+        quiet_of (cond f (cond b a.sequence (record { stage = a.sequence.stage; clock = a.sequence.clock; error = error.NotBooked; judgement = a.sequence.judgement })) a.sequence) ≡ true
     go true true e = h.quiet
     go true false e = h.finish e
     go false b e = h.quiet
@@ -147,19 +147,19 @@ idle_shut p (DischargeStart t) h = refl
 idle_shut p Discharge h = absurd (subst T (sym h) tt)
 idle_shut p (DischargeEnd t) h = absurd (subst T (sym h) tt)
 
-error_shut : (p : Setpoints) (g : Stage) (e : Option SequenceError) → no_error e || idle_of g ≡ true → (e ≡ None → ⊥) → gates_of p g ≡ shut
-error_shut p g None h n = absurd (n refl)
-error_shut p g (Some error.NoFinal) h n = idle_shut p g h
-error_shut p g (Some error.Reached) h n = idle_shut p g h
-error_shut p g (Some error.Stopped) h n = idle_shut p g h
-error_shut p g (Some error.FlowTime) h n = idle_shut p g h
-error_shut p g (Some error.BadWeight) h n = idle_shut p g h
-error_shut p g (Some error.NotBooked) h n = idle_shut p g h
-error_shut p g (Some error.DischargeStopped) h n = idle_shut p g h
-error_shut p g (Some error.DischargeTime) h n = idle_shut p g h
+error_shut : (p : Setpoints) (g : Stage) (e : SequenceError) → no_error e || idle_of g ≡ true → (e ≡ error.None → ⊥) → gates_of p g ≡ shut
+error_shut p g error.None h n = absurd (n refl)
+error_shut p g error.NoFinal h n = idle_shut p g h
+error_shut p g error.Reached h n = idle_shut p g h
+error_shut p g error.Stopped h n = idle_shut p g h
+error_shut p g error.FlowTime h n = idle_shut p g h
+error_shut p g error.BadWeight h n = idle_shut p g h
+error_shut p g error.NotBooked h n = idle_shut p g h
+error_shut p g error.DischargeStopped h n = idle_shut p g h
+error_shut p g error.DischargeTime h n = idle_shut p g h
 
 pub quiet_gates : (s : Settings) (st : State) (i : Input) → quiet_of (next_of s st i).sequence ≡ true →
     let a = (tick_of s st i).answer in
-    (a.error ≡ None → ⊥) → a.gates ≡ shut
+    (a.error ≡ error.None → ⊥) → a.gates ≡ shut
 unfolding tick_of outputs_of
 quiet_gates s st i = error_shut (next_of s st i).setpoints (next_of s st i).sequence.stage (next_of s st i).sequence.error

@@ -25,6 +25,7 @@ use Rattle.outline.proofs.RangeSetpoints.{open_fits, tick_fits}
 use Rattle.outline.proofs.RangeSequence.{tick_sequence}
 use Rattle.outline.proofs.RangeTotals.{clear_in, tick_totals}
 use Rattle.outline.proofs.RangeTogether.{tick_together}
+use Rattle.types.specs.declared.stages.SequenceError.TheVariants as error
 
 pub open_in : (s : Settings) → StateRange s open_state
 unfolding open_state
@@ -98,7 +99,7 @@ in_range s a h = record {
 }
 
 -- ---- from whatever state is in range and in balance
-quiet_in : (q : Sequence) → (idle_of q.stage ≡ false → q.error ≡ None) → quiet_of q ≡ true
+quiet_in : (q : Sequence) → (idle_of q.stage ≡ false → q.error ≡ error.None) → quiet_of q ≡ true
 quiet_in q h = go (idle_of q.stage) refl
   where
     go : (t : Bool) → idle_of q.stage ≡ t → no_error q.error || t ≡ true

@@ -85,7 +85,7 @@ of_discharge_lem g e = go (discharging_of g) refl
     go false k = absurd (clash e (not_emptying g k))
 
 -- ---- to stage 00, with whatever judgement, and with an error that the mode has
-rest_in : (b : Batching) (e : Option SequenceError) (j : Option Judgement) → (of_discharge e ≡ true → b.mode ≡ mode.Normal)
+rest_in : (b : Batching) (e : SequenceError) (j : Judgement) → (of_discharge e ≡ true → b.mode ≡ mode.Normal)
     → SequenceRange b (record { stage = Idle; clock = 0; error = e; judgement = j })
 rest_in b e j n = record {
   timer = tt;
@@ -99,7 +99,7 @@ rest_in b e j n = record {
 }
 
 -- an error that no discharge gives
-common : (b : Batching) (e : Option SequenceError) → of_discharge e ≡ false → of_discharge e ≡ true → b.mode ≡ mode.Normal
+common : (b : Batching) (e : SequenceError) → of_discharge e ≡ false → of_discharge e ≡ true → b.mode ≡ mode.Normal
 common b e n k = absurd (clash k n)
 
 -- ---- step 4: start, discharge and stop
@@ -132,16 +132,16 @@ discharge_in b q e = record {
   normal_error = λ k. is_normal_lem b.mode e;
 }
 
-stop_error_lem : (g : Stage) → of_discharge (Some (stop_error g)) ≡ true → discharging_of g ≡ true
+stop_error_lem : (g : Stage) → of_discharge (stop_error g) ≡ true → discharging_of g ≡ true
 stop_error_lem g = go (discharging_of g)
   where
-    go : (t : Bool) → of_discharge (Some (cond t error.DischargeStopped error.Stopped)) ≡ true → t ≡ true
+    go : (t : Bool) → of_discharge (cond t error.DischargeStopped error.Stopped) ≡ true → t ≡ true
     go true e = refl
     go false e = absurd (clash e refl)
 
 stop_in : (b : Batching) (q : Sequence) → SequenceRange b q → SequenceRange b (stop_sequence q)
 unfolding stop_sequence
-stop_in b q h = cond_in (SequenceRange b) (idle_of q.stage) (λ e. h) (λ e. rest_in b (Some (stop_error q.stage)) q.judgement (λ k. h.normal (stop_error_lem q.stage k)))
+stop_in b q h = cond_in (SequenceRange b) (idle_of q.stage) (λ e. h) (λ e. rest_in b (stop_error q.stage) q.judgement (λ k. h.normal (stop_error_lem q.stage k)))
 
 module _ (s : Settings) (st : State) (x : Weights) (h : SequenceRange s.batching st.sequence) where
   granted_sequence : (r : Option Request) → done_of (ruling_of s st x r) ≡ true → SequenceRange s.batching (granted_of st x r).state.sequence
@@ -175,7 +175,7 @@ record StageIn (b : Batching) (from to : Stage) : Type 0 where
 
 abbrev MoveIn : Batching → Stage → Move → Type 0
 MoveIn b from (To to) = StageIn b from to
-MoveIn b from (Fail e) = of_discharge (Some e) ≡ false
+MoveIn b from (Fail e) = of_discharge e ≡ false
 MoveIn b from (Finish j) = Unit {0}
 MoveIn b from Emptied = Unit {0}
 
@@ -290,17 +290,17 @@ land_in b q (To g) idle late slow h m = record {
   };
   finished = λ e. absurd (clash e refl);
 }
-land_in b q (Fail e) idle late slow h m = record { sequence = rest_in b (Some e) q.judgement (common b (Some e) m); finished = λ k. refl }
-land_in b q (Finish j) idle late slow h m = record { sequence = rest_in b q.error (Some j) h.normal_error; finished = λ k. refl }
+land_in b q (Fail e) idle late slow h m = record { sequence = rest_in b e q.judgement (common b e m); finished = λ k. refl }
+land_in b q (Finish j) idle late slow h m = record { sequence = rest_in b q.error j h.normal_error; finished = λ k. refl }
 land_in b q Emptied idle late slow h m = record { sequence = rest_in b q.error q.judgement h.normal_error; finished = λ k. refl }
 
 advance_in : (b : Batching) (p : Setpoints) (q : Sequence) (f : Facts) → SequenceRange b q → AdvancedIn b (advance_of b p q f)
 unfolding advance_of
 advance_in b p q f h =
     cond_in (AdvancedIn b) (idle_of q.stage) (λ e. record { sequence = h; finished = λ k. e })
-    (λ idle. cond_in (AdvancedIn b) f.unfit (λ e. record { sequence = rest_in b (Some error.BadWeight) q.judgement (common b (Some error.BadWeight) refl); finished = λ k. refl })
-    (λ fit. cond_in (AdvancedIn b) (late_of b q) (λ e. record { sequence = rest_in b (Some error.FlowTime) q.judgement (common b (Some error.FlowTime) refl); finished = λ k. refl })
-    (λ late. cond_in (AdvancedIn b) (slow_of b q) (λ e. record { sequence = rest_in b (Some error.DischargeTime) q.judgement (λ k. h.normal (of_discharge_lem q.stage (and_left (emptying_of q.stage) _ e))); finished = λ k. refl })
+    (λ idle. cond_in (AdvancedIn b) f.unfit (λ e. record { sequence = rest_in b error.BadWeight q.judgement (common b error.BadWeight refl); finished = λ k. refl })
+    (λ fit. cond_in (AdvancedIn b) (late_of b q) (λ e. record { sequence = rest_in b error.FlowTime q.judgement (common b error.FlowTime refl); finished = λ k. refl })
+    (λ late. cond_in (AdvancedIn b) (slow_of b q) (λ e. record { sequence = rest_in b error.DischargeTime q.judgement (λ k. h.normal (of_discharge_lem q.stage (and_left (emptying_of q.stage) _ e))); finished = λ k. refl })
     (λ slow. land_in b q (move_of b p q.stage f) idle late slow h (move_in b p q.stage f idle)))))
 
 -- a batch that cannot be booked makes an error, in stage 00
@@ -314,7 +314,7 @@ booked_in b t v q h idle = cond_in (SequenceRange b) (bookable t v) (λ e. h) (�
   no_error_lem = λ k. absurd (clash idle k);
   no_judgement = h.no_judgement;
   normal = h.normal;
-  normal_error = common b (Some error.NotBooked) refl;
+  normal_error = common b error.NotBooked refl;
 })
 
 finished_sequence : (s : Settings) (st : State) (x : Weights) (a : Advanced) → AdvancedIn s.batching a → SequenceRange s.batching (finished_of s st x a).sequence

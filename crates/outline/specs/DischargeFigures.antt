@@ -61,7 +61,7 @@ before = record {
   panel = record { display = display.Gross };
   setpoints = points;
   waiting = none_waiting;
-  sequence = record { stage = stage.Idle; clock = 0; error = Some error.DischargeStopped; judgement = Some judgement.Ok };
+  sequence = record { stage = stage.Idle; clock = 0; error = error.DischargeStopped; judgement = judgement.Ok };
   totals = record { total = 10; count = 1; back = Some 10 };
 }
 
@@ -168,12 +168,12 @@ abbrev pub judgements_in : List Answer → List ℕ
 judgements_in = map (λ (a : Answer). judgement_number a.judgement)
 
 -- the judgements of a whole discharge, 14, 15, 16 and 00, behind a batch so judged
-abbrev pub judged_behind : Option Judgement → List ℕ
+abbrev pub judged_behind : Judgement → List ℕ
 judged_behind j =
     judgements_in
     (answers_in
     (ticks_in (settings_out 0 0 6000) (drained 1 2)
-    (with_sequence before (record { stage = stage.Idle; clock = 0; error = None; judgement = j }))))
+    (with_sequence before (record { stage = stage.Idle; clock = 0; error = error.None; judgement = j }))))
 
 -- after a discharge and this request
 abbrev pub after_then : Option Request → List ℕ
@@ -221,7 +221,7 @@ day_of ts = record {
 abbrev pub stopped_batch : Course
 stopped_batch =
     course_from (settings_out 0 0 6000)
-    (with_sequence before (record { stage = stage.SmallDisable 0; clock = 0; error = None; judgement = None }))
+    (with_sequence before (record { stage = stage.SmallDisable 0; clock = 0; error = error.None; judgement = judgement.None }))
     (leg 1 (pos 0) (Some request.Stop) ∷ drained 1 2)
 
 -- ---- tracking: q 3, delays of 3, 4 tenths in every tick but the first, which does not count
@@ -433,10 +433,10 @@ pub record Discharged : Type 0 where
         after = 0 ∷ 9 ∷ 1 ∷ 10 ∷ 1 ∷ [];
       }
   -- "keeps the judgement": OK, over, under, none, through 14, 15, 16 and the end
-  pub judged_ok : judged_behind (Some judgement.Ok) ≡ replicate 4 1
-  pub judged_over : judged_behind (Some judgement.Over) ≡ replicate 4 2
-  pub judged_under : judged_behind (Some judgement.Under) ≡ replicate 4 3
-  pub judged_none : judged_behind None ≡ replicate 4 0
+  pub judged_ok : judged_behind judgement.Ok ≡ replicate 4 1
+  pub judged_over : judged_behind judgement.Over ≡ replicate 4 2
+  pub judged_under : judged_behind judgement.Under ≡ replicate 4 3
+  pub judged_none : judged_behind judgement.None ≡ replicate 4 0
   -- a discharge is no batch: the undo behind it takes back the batch before it
   pub then_nothing : after_then None ≡ 0 ∷ 0 ∷ 1 ∷ 10 ∷ 1 ∷ []
   pub then_undo : after_then (Some request.Undo) ≡ 0 ∷ 0 ∷ 1 ∷ 0 ∷ 0 ∷ []

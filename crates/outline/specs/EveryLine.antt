@@ -22,6 +22,7 @@ use Rattle.outline.specs.Replies.{framed, outcome_told, asked_of, due_text, line
 use Rattle.outline.specs.Owed.{Accepted}
 use Rattle.outline.specs.Run.{History, ◌▷◌, run_of, then_all, line_input}
 use Rattle.outline.specs.StaysTrue.{NoneSet, figures_of, both_open}
+use Rattle.types.specs.declared.stages.SequenceError.TheVariants as error
 
 -- ---- 1. a reply has at most 64 bytes, prefix and CR LF among them, and never more than its buffer
 pub record Bounded (s : Settings) (st : State) (count : ℤ) (contact : Bool) (receive buffer : List ℕ) : Type 0 where
@@ -129,7 +130,7 @@ ReadBackOnLine = (s : Settings) → Accepted s → (h : History Input) (count : 
 abbrev pub GatesShutOnLine : Type 0
 GatesShutOnLine = (s : Settings) → Accepted s → (h : History Input) (count : ℤ) (contact : Bool) (receive buffer : List ℕ) →
     let a = (line_tick_of s (run_of s h) count contact receive buffer).answer in
-    (a.error ≡ None → ⊥) → a.gates ≡ shut
+    (a.error ≡ error.None → ⊥) → a.gates ≡ shut
 
 -- ---- 6. a DC that is told 0 answers the book that the same tick without it would have left
 abbrev pub TicketOnLine : Type 0

@@ -58,23 +58,23 @@ stage_number stage.Discharge = 15
 stage_number (stage.DischargeEnd t) = 16
 
 -- sequence errors
-abbrev pub error_number : Option SequenceError → ℕ
-error_number None = 0
-error_number (Some error.NoFinal) = 1
-error_number (Some error.Reached) = 2
-error_number (Some error.Stopped) = 4
-error_number (Some error.FlowTime) = 6
-error_number (Some error.BadWeight) = 9
-error_number (Some error.NotBooked) = 10
-error_number (Some error.DischargeStopped) = 7
-error_number (Some error.DischargeTime) = 8
+abbrev pub error_number : SequenceError → ℕ
+error_number error.None = 0
+error_number error.NoFinal = 1
+error_number error.Reached = 2
+error_number error.Stopped = 4
+error_number error.FlowTime = 6
+error_number error.BadWeight = 9
+error_number error.NotBooked = 10
+error_number error.DischargeStopped = 7
+error_number error.DischargeTime = 8
 
 -- judgement: words in the outline, numbers of the house
-abbrev pub judgement_number : Option Judgement → ℕ
-judgement_number None = 0
-judgement_number (Some judgement.Ok) = 1
-judgement_number (Some judgement.Over) = 2
-judgement_number (Some judgement.Under) = 3
+abbrev pub judgement_number : Judgement → ℕ
+judgement_number judgement.None = 0
+judgement_number judgement.Ok = 1
+judgement_number judgement.Over = 2
+judgement_number judgement.Under = 3
 
 -- blocks
 abbrev pub block_number : Result (Unit {0}) BlockRefusal → ℕ

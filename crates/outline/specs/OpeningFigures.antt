@@ -12,6 +12,8 @@ use Rattle.outline.specs.Settings.{open_of}
 use Rattle.outline.specs.Tick.{opened_of}
 use Rattle.outline.specs.Numbers.{opening_number}
 use Rattle.outline.specs.Figures.{minus, given_of, list_a}
+use Rattle.types.specs.declared.stages.SequenceError.TheVariants as error
+use Rattle.types.specs.declared.stages.Judgement.TheVariants as judgement
 
 -- "Settings A: Z 0, S 100,000, W = C = 10,000, d 1, p 2, q 100, w 5, L 20, k 100, s 2, mode 1, delays 0, Q 6,000, address 0, no board,
 -- ends 0 and 10,000."
@@ -82,7 +84,7 @@ written_state = record {
   panel = record { display = display.Gross };
   setpoints = record { target = 0; fall = 0; preliminary = 0; optional = 0; over = 0; under = 0; near = 0 };
   waiting = None;
-  sequence = record { stage = stage.Idle; clock = 0; error = None; judgement = None };
+  sequence = record { stage = stage.Idle; clock = 0; error = error.None; judgement = judgement.None };
   totals = record { total = 0; count = 0; back = None };
 }
 

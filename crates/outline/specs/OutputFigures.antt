@@ -15,6 +15,8 @@ use Rattle.outline.specs.Figures.{minus, given_of, list_a, settings_a, tick_at, 
 use Rattle.outline.specs.Worked.{Leg, leg, answers}
 use Rattle.outline.specs.Rules.{settings_loss}
 use Rattle.outline.specs.RequestFigures.{settings10, tared}
+use Rattle.types.specs.declared.stages.SequenceError.TheVariants as error
+use Rattle.types.specs.declared.stages.Judgement.TheVariants as judgement
 
 -- ---- the first tick after the opening
 abbrev pub first : ℤ → Answer
@@ -26,8 +28,8 @@ first_answer gross near = record {
   reading = record { good = true; overload = false; stable = false; gross = gross; net = gross };
   stage = stage.Idle;
   gates = record { large = false; medium = false; small = false; discharge = false };
-  judgement = None;
-  error = None;
+  judgement = judgement.None;
+  error = error.None;
   near = near;
   full = false;
   analog = None;

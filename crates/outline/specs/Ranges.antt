@@ -28,6 +28,7 @@ use Rattle.outline.specs.Weight.{fit_of}
 use Rattle.outline.specs.Zero.{tracking_on}
 use Rattle.outline.specs.Setpoints.{setpoints_fit, none_waiting, no_large_flow}
 use Rattle.outline.specs.Stages.{idle_of, flowing_of, emptying_of, discharging_of}
+use Rattle.types.specs.declared.stages.Judgement.TheVariants as judgement
 
 -- the day book
 pub record BookRange (b : Book) : Type 0 where
@@ -64,16 +65,16 @@ pub record WeighingRange (r : Range) (t : Tracking) (w : Weighing) : Type 0 wher
   pub tare_most : nat_abs w.tare ≤ r.capacity * r.division
 
 -- errors 7 and 8, which a discharge alone gives
-abbrev pub of_discharge : Option SequenceError → Bool
-of_discharge None = false
-of_discharge (Some error.NoFinal) = false
-of_discharge (Some error.Reached) = false
-of_discharge (Some error.Stopped) = false
-of_discharge (Some error.FlowTime) = false
-of_discharge (Some error.BadWeight) = false
-of_discharge (Some error.NotBooked) = false
-of_discharge (Some error.DischargeStopped) = true
-of_discharge (Some error.DischargeTime) = true
+abbrev pub of_discharge : SequenceError → Bool
+of_discharge error.None = false
+of_discharge error.NoFinal = false
+of_discharge error.Reached = false
+of_discharge error.Stopped = false
+of_discharge error.FlowTime = false
+of_discharge error.BadWeight = false
+of_discharge error.NotBooked = false
+of_discharge error.DischargeStopped = true
+of_discharge error.DischargeTime = true
 
 -- a timed stage of n: fewer than max(n, 1) ticks lie behind
 abbrev pub TimerRange : Batching → Stage → Type 0
@@ -98,8 +99,8 @@ pub record SequenceRange (b : Batching) (q : Sequence) : Type 0 where
   pub discharge_clock : emptying_of q.stage ≡ true → q.clock ≤ b.discharge.limit
   pub unclocked : flowing_of q.stage || emptying_of q.stage ≡ false → q.clock ≡ 0
   -- no error outside stage 00, and no judgement in a batch
-  pub no_error_lem : idle_of q.stage ≡ false → q.error ≡ None
-  pub no_judgement : idle_of q.stage || discharging_of q.stage ≡ false → q.judgement ≡ None
+  pub no_error_lem : idle_of q.stage ≡ false → q.error ≡ error.None
+  pub no_judgement : idle_of q.stage || discharging_of q.stage ≡ false → q.judgement ≡ judgement.None
   -- no discharge in mode 2, and no error of one
   pub normal : discharging_of q.stage ≡ true → b.mode ≡ mode.Normal
   pub normal_error : of_discharge q.error ≡ true → b.mode ≡ mode.Normal

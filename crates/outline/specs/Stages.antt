@@ -26,7 +26,7 @@ use Rattle.outline.specs.Weight.{fit_of}
 
 -- "Opening: .. error 0, stage 00, .. no judgement"
 abbrev pub open_sequence : Sequence
-open_sequence = record { stage = Idle; clock = 0; error = None; judgement = None }
+open_sequence = record { stage = Idle; clock = 0; error = error.None; judgement = judgement.None }
 
 -- "Compared weight v is net in mode 1, minus net in mode 2."
 abbrev pub compared_of : Mode → Weights → ℤ
@@ -185,15 +185,15 @@ slow_of b q = emptying_of q.stage && ltb b.discharge.limit (suc q.clock)
 
 -- "Errors, each going to 00"
 abbrev pub failed_of : Sequence → SequenceError → Sequence
-failed_of q e = record { stage = Idle; clock = 0; error = Some e; judgement = q.judgement }
+failed_of q e = record { stage = Idle; clock = 0; error = e; judgement = q.judgement }
 
 -- "An accepted start clears the error and enters 03." "An accepted start makes the judgement none again."
 abbrev pub start_sequence : Sequence
-start_sequence = record { stage = StartDelay 0; clock = 0; error = None; judgement = None }
+start_sequence = record { stage = StartDelay 0; clock = 0; error = error.None; judgement = judgement.None }
 
 -- A1: "BD, like BB, clears the error .., but keeps the judgement; 14 is the start delay"
 abbrev pub discharge_sequence : Sequence → Sequence
-discharge_sequence q = record { stage = DischargeStart 0; clock = 0; error = None; judgement = q.judgement }
+discharge_sequence q = record { stage = DischargeStart 0; clock = 0; error = error.None; judgement = q.judgement }
 
 -- "stop in 03-11, error 4"; A1: "Stop in 14 to 16 is error 7"
 abbrev pub stop_error : Stage → SequenceError
@@ -208,7 +208,7 @@ unfoldable pub land_of : Sequence → Move → Advanced
 land_of q (To stage) =
     record { sequence = record { stage = stage; clock = clock_of q; error = q.error; judgement = q.judgement }; finished = false }
 land_of q (Fail e) = record { sequence = failed_of q e; finished = false }
-land_of q (Finish j) = record { sequence = record { stage = Idle; clock = 0; error = q.error; judgement = Some j }; finished = true }
+land_of q (Finish j) = record { sequence = record { stage = Idle; clock = 0; error = q.error; judgement = j }; finished = true }
 -- a discharge ends: no batch finishes, the judgement stays
 land_of q Emptied = record { sequence = record { stage = Idle; clock = 0; error = q.error; judgement = q.judgement }; finished = false }
 

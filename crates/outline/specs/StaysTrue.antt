@@ -36,6 +36,7 @@ use Rattle.outline.specs.Zeroing.{seen_run, zeroing_of, sum_of, AllWithin}
 use Rattle.outline.specs.Ledger.{event_run, ledger_of, sum_n}
 use Rattle.outline.specs.Writes.{points_run, written_since, written_last}
 use Rattle.outline.specs.Ranges.{Balanced, StateRange, WeightsRange, Unstopped}
+use Rattle.types.specs.declared.stages.SequenceError.TheVariants as error
 
 -- ---- 1. "the day balances (opening + refilled - used - unbooked is the last good raw)"
 abbrev pub Balance : Type 0
@@ -83,7 +84,7 @@ TotalOfBatches = (s : Settings) → Accepted s → (h : History Input) → Total
 abbrev pub GatesShut : Type 0
 GatesShut = (s : Settings) → Accepted s → (h : History Input) (i : Input) →
     let a = (tick_of s (run_of s h) i).answer in
-    (a.error ≡ None → ⊥) → a.gates ≡ shut
+    (a.error ≡ error.None → ⊥) → a.gates ≡ shut
 
 -- ---- 7. every state reached is in range, and the weights of its next tick are
 pub record Within (s : Settings) (h : History Input) : Type 0 where
@@ -190,7 +191,7 @@ pub record Keeps (s : Settings) (st : State) : Type 0 where
   pub balance : Balanced st.book
   pub gates : (i : Input) →
       let a = (tick_of s st i).answer in
-      (a.error ≡ None → ⊥) → a.gates ≡ shut
+      (a.error ≡ error.None → ⊥) → a.gates ≡ shut
 
 abbrev pub FromRange : Type 0
 FromRange = (s : Settings) (st : State) → StateRange s st → Balanced st.book → (is : List Input) → Keeps s (run_from s st is)

@@ -26,7 +26,7 @@ booked_totals t v = cond (bookable t v) (grown_of t v) t
 -- "and the error is 10 (house)."
 unfoldable pub booked_sequence : Totals → ℤ → Sequence → Sequence
 booked_sequence t v q =
-    cond (bookable t v) q (record { stage = q.stage; clock = q.clock; error = Some error.NotBooked; judgement = q.judgement })
+    cond (bookable t v) q (record { stage = q.stage; clock = q.clock; error = error.NotBooked; judgement = q.judgement })
 
 -- "nothing to take back"
 abbrev pub none_back : Option ℕ → Bool

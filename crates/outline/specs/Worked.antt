@@ -99,8 +99,8 @@ finish_under q =
     ∷ leg 11 (pos 100) None ∷ [])
     open_state
 
-abbrev pub last_judgement : List Answer → Option Judgement
-last_judgement [] = None
+abbrev pub last_judgement : List Answer → Judgement
+last_judgement [] = judgement.None
 last_judgement (a ∷ []) = a.judgement
 last_judgement (a ∷ b ∷ l) = last_judgement (b ∷ l)
 
@@ -117,8 +117,8 @@ pub record Batches : Type 0 where
       ≡ shut ∷ shut ∷ shut ∷ shut ∷ all ∷ all ∷ all ∷ two ∷ two ∷ two ∷ one ∷ one ∷ shut ∷ shut ∷ replicate 9 shut
   pub late_stages : stages_in late ≡ 0 ∷ 3 ∷ 8 ∷ 9 ∷ 9 ∷ 9 ∷ 0 ∷ 0 ∷ []
   -- a finish at Q stands; in the tick past it, it is neither judged nor booked
-  pub finish_at_limit : last_judgement (finish_under 12) ≡ Some judgement.Ok
-  pub finish_past_limit : last_judgement (finish_under 11) ≡ None
+  pub finish_at_limit : last_judgement (finish_under 12) ≡ judgement.Ok
+  pub finish_past_limit : last_judgement (finish_under 11) ≡ judgement.None
   pub late_errors : errors_in late ≡ 0 ∷ 0 ∷ 0 ∷ 0 ∷ 0 ∷ 0 ∷ 6 ∷ 6 ∷ []
 
 -- ---- lines, byte by byte

@@ -65,7 +65,7 @@ pub fn booked_sequence(t: Totals, v: i64, q: Sequence) -> Sequence
     Sequence {
         stage: q.stage,
         clock: q.clock,
-        error: Some(SequenceError::NotBooked),
+        error: SequenceError::NotBooked,
         judgement: q.judgement,
     }
 }

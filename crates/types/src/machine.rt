@@ -56,8 +56,8 @@ pub struct Answer {
     pub reading: Reading,
     pub stage: Stage,
     pub gates: Gates,
-    pub judgement: Option<Judgement>,
-    pub error: Option<SequenceError>,
+    pub judgement: Judgement,
+    pub error: SequenceError,
     // the near-zero and the full output
     pub near: bool,
     pub full: bool,

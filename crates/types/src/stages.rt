@@ -33,14 +33,17 @@ pub enum Stage {
 
 #[derive(Clone, Copy)]
 pub enum Judgement {
+    None,
     Ok,
     Over,
     Under,
 }
 
-// Of a batch errors 1, 2, 4, 6, 9 and 10; of a discharge 7, 8 and 9.
+// None; of a batch errors 1, 2, 4, 6, 9 and 10; of a discharge 7, 8 and 9. None is a variant here and in a judgement: with an Option of each
+// a sequence is ten bytes and not eight, and a tick's stack was 676 bytes where bench/stack allows 640.
 #[derive(Clone, Copy)]
 pub enum SequenceError {
+    None,
     NoFinal,
     Reached,
     Stopped,
@@ -56,8 +59,8 @@ pub struct Sequence {
     pub stage: Stage,
     // the flow clock in 04 to 11, the discharge's in 15 and 16
     pub clock: u16,
-    pub error: Option<SequenceError>,
-    pub judgement: Option<Judgement>,
+    pub error: SequenceError,
+    pub judgement: Judgement,
 }
 
 #[derive(Clone, Copy)]
