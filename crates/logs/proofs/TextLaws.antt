@@ -9,19 +9,20 @@ use mathlib.Core.List.{List, [], ◌∷◌, ◌++◌, append_assoc}
 use mathlib.Core.Bool.{Bool, true, false, cond}
 use borrow.Author.Tests.{le-leb, lt-leb}
 use lib.Dec.{leb-zero, eqb}
-use lib.ListN.{length, get_or, take, drop, set, length-append, drop_of_length-le}
+use lib.ListN.{length, get_or, take, drop, set, length-set, length-append, drop_of_length-le}
 use lib.Seq.{sets, length-sets, set-set, drop-cons, take_all}
 use Rattle.types.specs.declared.daybook.Book.{Book}
 use Rattle.types.specs.declared.weight.Weighing.{Weighing}
 use Rattle.types.specs.declared.stages.Totals.{Totals}
-use Rattle.outline.specs.Replies.{written_of}
+use Rattle.outline.specs.Replies.{written_of, digits_of}
+use Rattle.outline.proofs.Lengths.{length_digits}
 use Rattle.outline.specs.Worked.{ascii}
 use Rattle.outline.specs.Ticket.{decimal_text, pair_text, day_text, left_text, ticket_text, refused_text, fitted_in}
-use Rattle.replies.specs.Put.{Put}
-use Rattle.replies.specs.Writers.{fitted_bytes, short_bytes, silent_bytes}
+use Rattle.replies.specs.Put.{Put, put_in, place_in}
+use Rattle.replies.specs.Writers.{fitted_bytes, short_bytes, silent_bytes, same, put_fits}
 use Rattle.logs.specs.declared.pairs.Amount.{Amount}
 use Rattle.logs.specs.Amounts.{count_of, amounts_of, number_line, number_lines, marks, filled}
-use Rattle.logs.proofs.DecimalLaws.{decimal_short}
+use Rattle.logs.proofs.DecimalLaws.{decimal_short, decimal_some, decimal_digits_lem}
 
 -- ---- a number and LF
 pub sign_length : (minus : Bool) → length {A = ℕ} (cond minus (45 ∷ []) []) ≡ cond minus 1 0
@@ -58,9 +59,12 @@ pub numbers_end : (s : List Amount) (i : ℕ) → length s ≤ i → length (num
 unfolding number_lines
 numbers_end s i h = rw (drop_of_length-le s h)
 
-pub numbers_more : (s : List Amount) (i : ℕ) (z : Amount) → i < length s → length (number_lines (drop i s)) ≡ length (number_line (get_or s i z)) + length (number_lines (drop (i + 1) s))
+next_line : (s : List Amount) (i : ℕ) (z : Amount) → i < length s → length (number_lines (drop i s)) ≡ length (number_line (get_or s i z)) + length (number_lines (drop (i + 1) s))
 unfolding number_lines
-numbers_more s i z h = rw (drop-cons s i z h, add-one) (length-append (number_line (get_or s i z)) (number_lines (drop (suc i) s)))
+next_line s i z h = rw (drop-cons s i z h, add-one) (length-append (number_line (get_or s i z)) (number_lines (drop (suc i) s)))
+
+pub numbers_more : (s : List Amount) (i : ℕ) (z : Amount) → i < length s → length (number_lines (drop i s)) ≡ cond (get_or s i z).minus 1 0 + length (decimal_text (get_or s i z).size) + 1 + length (number_lines (drop (i + 1) s))
+numbers_more s i z h = omega (arith, next_line s i z h, number_length (get_or s i z))
 
 -- ---- the text's length
 filled_length : (keys : List ℕ) (s : List Amount) → marks keys ≤ length s → length (filled keys s) ≡ length keys + length (number_lines (take (marks keys) s))
@@ -161,6 +165,23 @@ measured {at = at} p = record { stored = p.stored; behind = p.behind ∙ ap (λ 
 
 pub put_length : {d xs l : List ℕ} {at n w : ℕ} → Put d at xs l n w → length l ≡ length d
 put_length {d} {xs} {at = at} p = ap length p.stored ∙ length-sets d at xs
+
+-- the digits behind the place that a minus has
+pub signed_put : {d out : List ℕ} (a : Amount) {at sign count next : ℕ} → sign ≡ cond a.minus 1 0 → count ≡ length (decimal_text a.size) → at + length (number_line a) ≤ length d
+    → next ≡ place_in (set d at 45) (at + sign) (digits_of count a.size) → out ≡ put_in (set d at 45) (at + sign) (digits_of count a.size)
+    → Put d at (cond a.minus (45 ∷ []) [] ++ decimal_text a.size) out next (cond a.minus 1 0 + length (decimal_text a.size))
+signed_put {d} {out} a {at} {sign} {count} {next} e k h n o =
+    let digits : digits_of count a.size ≡ decimal_text a.size = ap (λ (m : ℕ). digits_of m a.size) k ∙ decimal_digits_lem a.size in
+    let room : at + sign + length (digits_of count a.size) ≤ length (set d at 45) = rw length-set (omega (arith, length_digits count a.size, number_length a)) in
+    let put = same digits (put_fits (set d at 45) (at + sign) (digits_of count a.size) room n o) in
+    record {
+      stored =
+          put.stored
+          ∙ ap (λ (m : ℕ). sets (set d at 45) (at + m) (decimal_text a.size)) e
+          ∙ signed_sets a.minus d at (decimal_text a.size) (decimal_some a.size);
+      behind = omega (arith, put.behind, put.long);
+      long = simp (length-append, sign_length);
+    }
 
 pub fitted : {d xs l : List ℕ} {n w : ℕ} → Put d 0 xs l n w → w ≤ length d → (n ≡ fitted_in xs d) × (l ≡ written_of xs d)
 unfolding fitted_in

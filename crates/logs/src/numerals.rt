@@ -1,11 +1,11 @@
 // The whole numbers of a log: an optional minus and one to nine digits, read at any place of any line.
-ghost use Rattle.std.specs.Prelude.{◌≡◌, ◌^◌, ◌≤◌, ◌<◌, take};
+ghost use Rattle.std.specs.Prelude.{◌≡◌, true, cond, suc, ◌^◌, ◌≤◌, ◌<◌, take};
 ghost use Rattle.outline.specs.Limits.{number_digits};
 ghost use Rattle.outline.specs.Log.{digit_run, value_from, signed_of, number_at};
 
+use crate::pieces::part;
 use commands::digits::is_digit;
 use commands::line::byte_at;
-use crate::pieces::part;
 use types::log::LogNumber;
 
 // The most digits of a number. So many always fit an i32.
@@ -43,13 +43,20 @@ fn signed(minus: bool, v: u32) -> i32
     if minus { -n } else { n }
 }
 
+fn digits_from(minus: bool, at: usize) -> usize
+    requires { minus ≡ true → suc at < 2 ^ 64 }
+    ensures { result ≡ cond minus (suc at) at }
+{
+    if minus { at + 1 } else { at }
+}
+
 // The whole number at a place of the line, as far as its digits go.
 #[tactic(auto, using(crate::proofs::NumberLaws::minus_within), unfolding(outline::specs::Log::number_at))]
 pub fn number_at(line: &[u8], at: usize) -> Option<LogNumber>
     ensures { result ≡ number_at line.now at }
 {
     let minus = byte_at(line, at) == b'-';
-    let from = if minus { at + 1 } else { at };
+    let from = digits_from(minus, at);
     let digits = part(line, from, line.len());
     let n = digit_run(digits);
     match n {

@@ -24,7 +24,7 @@ pub(crate) fn amount_of(n: i64) -> Amount
     }
 }
 
-// How many digits a number has.
+// How many digits a number has. The library's ilog10 promises the powers of ten around it, not the count that the text is made by.
 fn digit_count(n: u64) -> usize
     ensures { result ≡ length (decimal_text n) }
 {
@@ -77,10 +77,11 @@ fn put_text(out: &mut [u8], keys: &[u8], amounts: &[Amount]) -> usize
     for &byte in keys {
         out[at] = byte;
         at += 1;
-        if byte == b'=' {
-            at = put_number(out, at, amounts[line]);
-            line += 1;
+        if byte != b'=' {
+            continue;
         }
+        at = put_number(out, at, amounts[line]);
+        line += 1;
     }
     at
 }

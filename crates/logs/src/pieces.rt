@@ -25,7 +25,7 @@ pub(crate) fn next_lf(piece: &[u8], from: usize) -> usize
 }
 
 // Brings the bytes held from a place on to the start of the buffer, so that it can be read on behind them, and tells how many there are.
-// Bytes that they do not cover stay.
+// Bytes that they do not cover stay. They are moved one by one: the library has no copy within a slice.
 #[tactic(auto, unfolding(outline::specs::Log::kept_in))]
 pub fn keep(space: &mut [u8], from: usize, all: usize) -> usize
     ensures count { result ≡ length (between space.old from all) }

@@ -68,7 +68,13 @@ fn amounts_of(book: Book, weighing: Weighing, totals: Totals) -> [Amount; 8]
 }
 
 // A ticket, where the tick closed a day; else no byte. The answer is the count of its bytes, 0 too where they do not fit.
-pub fn write_ticket(out: &mut [u8], closed: Option<Book>, weighing: Weighing, totals: Totals) -> usize
+#[tactic(auto, unfolding(crate::specs::Amounts::marks))]
+pub fn write_ticket(
+    out: &mut [u8],
+    closed: Option<Book>,
+    weighing: Weighing,
+    totals: Totals,
+) -> usize
     ensures count { result ≡ fitted_in (ticket_text closed weighing totals) out.old }
     ensures bytes { out.new ≡ written_of (ticket_text closed weighing totals) out.old }
 {
@@ -83,6 +89,7 @@ pub fn write_ticket(out: &mut [u8], closed: Option<Book>, weighing: Weighing, to
 }
 
 // The line with this number can't be read.
+#[tactic(auto, unfolding(crate::specs::Amounts::marks))]
 pub fn write_refused(out: &mut [u8], number: u64) -> usize
     ensures count { result ≡ fitted_in (refused_text number) out.old }
     ensures bytes { out.new ≡ written_of (refused_text number) out.old }
