@@ -1,130 +1,128 @@
 // Text into the output's buffer, each piece behind the one before. The room is tested once for each piece, since this is most of what
 // replay does: a piece that finds no room is left out whole, and the next goes to its place. The buffer is written out in time, so
 // that none is.
-ghost use Rattle.std.specs.Prelude.{◌≡◌, ◌+◌, leb};
+ghost use Rattle.std.specs.Prelude.{◌≡◌, length, IfSome};
 
-// The most digits of a u64.
-const DIGIT_LIMIT: usize = 20;
+use logs::pieces::part;
+use std::io;
 
-// A minus; or nothing to show.
-pub(crate) const DASH: u8 = 45;
+// The output is written when fewer bytes than a tick's line may need are left of its buffer.
+const LINE_ROOM: usize = 1_024;
 
-// n bytes at a place end within a buffer of this length.
-fn has_room(length: usize, at: usize, n: usize) -> bool
-    ensures { result ≡ leb (at + n) length }
-{
-    if length < n {
-        return false;
-    }
-    if length - n < at {
-        return false;
-    }
-    true
+// The bytes that are held at a time.
+const TEXT_BYTES: usize = 65_536;
+
+// What is still to be written: the first bytes of its buffer.
+#[derive(Drop)]
+pub(crate) struct Output {
+    buffer: [u8; TEXT_BYTES],
+    at: usize,
 }
 
-pub(crate) fn put_byte(out: &mut [u8], at: usize, byte: u8) -> usize {
-    if at < out.len() {
-        out[at] = byte;
-        return at + 1;
-    }
-    at
-}
-
-pub(crate) fn put(out: &mut [u8], at: usize, text: &[u8]) -> usize {
-    if !has_room(out.len(), at, text.len()) {
-        return at;
-    }
-    let mut i: usize = 0;
-    while i < text.len() {
-        out[at + i] = text[i];
-        i += 1;
-    }
-    at + text.len()
-}
-
-// How many digits a number has.
-fn digits_of(n: u64) -> usize {
-    let mut k: usize = 1;
-    let mut rest = n;
-    while k < DIGIT_LIMIT {
-        if rest < 10 {
-            return k;
+impl Output {
+    pub(crate) fn new() -> Output {
+        Output {
+            buffer: [0; TEXT_BYTES],
+            at: 0,
         }
-        rest /= 10;
-        k += 1;
     }
-    k
-}
 
-// The last k digits, from the right to the left.
-pub(crate) fn put_digits(out: &mut [u8], at: usize, n: u64, k: usize) -> usize {
-    if !has_room(out.len(), at, k) {
-        return at;
+    // Writes out what there is.
+    pub(crate) fn write(&mut self, rt: &impl Print) -> io::Result<()> {
+        rt.write_all(part(&self.buffer, 0, self.at))?;
+        self.at = 0;
+        Ok(())
     }
-    let mut rest = n;
-    let mut i = k;
-    while 0 < i {
-        i -= 1;
-        out[at + i] = 48 + (rest % 10) as u8;
-        rest /= 10;
-    }
-    at + k
-}
 
-// Most numbers of a tick have one digit.
-pub(crate) fn put_number(out: &mut [u8], at: usize, n: u64) -> usize {
-    if n < 10 {
-        return put_byte(out, at, 48 + n as u8);
+    // Writes out where a line may not find room.
+    pub(crate) fn make_room(&mut self, rt: &impl Print) -> io::Result<()> {
+        if TEXT_BYTES - LINE_ROOM < self.at {
+            return self.write(rt);
+        }
+        Ok(())
     }
-    put_digits(out, at, n, digits_of(n))
-}
 
-pub(crate) fn put_signed(out: &mut [u8], at: usize, n: i64) -> usize {
-    if n < 0 {
-        let behind = put_byte(out, at, DASH);
-        return put_number(out, behind, whole::magnitude(n));
+    // The next n bytes, where there is room for them.
+    fn room(&mut self, n: usize) -> Option<&mut [u8]>
+        ensures { IfSome result (λ place. length place.now ≡ n) }
+    {
+        let from = self.at;
+        if TEXT_BYTES < n || TEXT_BYTES - n < from {
+            return None;
+        }
+        self.at = from + n;
+        Some(&mut self.buffer[from..from + n])
     }
-    put_number(out, at, whole::magnitude(n))
-}
 
-pub(crate) fn put_flag(out: &mut [u8], at: usize, set: bool) -> usize {
-    put_byte(out, at, if set { 49 } else { 48 })
+    pub(crate) fn put(&mut self, text: &[u8]) {
+        if let Some(place) = self.room(text.len()) {
+            place.copy_from_slice(text);
+        }
+    }
+
+    pub(crate) fn byte(&mut self, byte: u8) {
+        if self.at < TEXT_BYTES {
+            self.buffer[self.at] = byte;
+            self.at += 1;
+        }
+    }
+
+    // The last k digits, from the right to the left.
+    pub(crate) fn digits(&mut self, n: u64, k: usize) {
+        let Some(place) = self.room(k) else {
+            return;
+        };
+        let mut rest = n;
+        for digit in place.iter_mut().rev() {
+            *digit = b'0' + (rest % 10) as u8;
+            rest /= 10;
+        }
+    }
+
+    // Most numbers of a tick have one digit.
+    pub(crate) fn number(&mut self, n: u64) {
+        if n < 10 {
+            self.byte(b'0' + n as u8);
+        } else {
+            self.digits(n, n.ilog10() as usize + 1);
+        }
+    }
+
+    pub(crate) fn signed(&mut self, n: i64) {
+        if n < 0 {
+            self.byte(b'-');
+        }
+        self.number(n.unsigned_abs());
+    }
+
+    pub(crate) fn flag(&mut self, set: bool) {
+        self.byte(if set { b'1' } else { b'0' });
+    }
+
+    // The last k hex digits of 64 bits.
+    pub(crate) fn bits(&mut self, bits: u64, k: usize) {
+        let Some(place) = self.room(k) else {
+            return;
+        };
+        let mut rest = bits;
+        for digit in place.iter_mut().rev() {
+            *digit = hex_digit(rest);
+            rest /= 16;
+        }
+    }
+
+    // Bytes in hex, two digits each; `-` where there is none.
+    pub(crate) fn hex(&mut self, bytes: &[u8]) {
+        if bytes.is_empty() {
+            self.byte(b'-');
+        }
+        for &byte in bytes {
+            self.bits(u64::from(byte), 2);
+        }
+    }
 }
 
 fn hex_digit(n: u64) -> u8 {
     let d = (n % 16) as u8;
-    if d < 10 { 48 + d } else { 87 + d }
-}
-
-// The last k hex digits of 64 bits.
-pub(crate) fn put_bits(out: &mut [u8], at: usize, bits: u64, k: usize) -> usize {
-    if !has_room(out.len(), at, k) {
-        return at;
-    }
-    let mut rest = bits;
-    let mut i = k;
-    while 0 < i {
-        i -= 1;
-        out[at + i] = hex_digit(rest);
-        rest /= 16;
-    }
-    at + k
-}
-
-// Bytes in hex, two digits each; `-` where there is none.
-pub(crate) fn put_hex(out: &mut [u8], at: usize, bytes: &[u8]) -> usize {
-    if bytes.len() == 0 {
-        return put_byte(out, at, DASH);
-    }
-    let mut n = at;
-    let mut i: usize = 0;
-    while i < bytes.len() {
-        n = put_bits(out, n, wide_byte(bytes[i]), 2);
-        i += 1;
-    }
-    n
-}
-
-fn wide_byte(byte: u8) -> u64 {
-    byte as u64
+    if d < 10 { b'0' + d } else { b'a' - 10 + d }
 }
