@@ -21,7 +21,7 @@ mod given;
 mod printout;
 mod text;
 
-// The bytes of the log that are held at a time.
+// The bytes that are held at a time, of the log and of the output.
 const SPACE_BYTES: usize = 65_536;
 
 // The longest reply buffer.
@@ -37,8 +37,8 @@ fn run_ticks(
     space: &mut [u8],
     reply: &mut [u8],
 ) -> io::Result<()> {
-    let mut out = Output::new();
-    out.opened();
+    let mut buffer = [0u8; SPACE_BYTES];
+    let mut out = Output::new(&mut buffer).opened();
     let mut state = open_state(s);
     let mut line = next_line(input, space, first)?;
     for _ in 0..u64::MAX {
@@ -47,15 +47,16 @@ fn run_ticks(
         };
         let request = request_in(space, line);
         let t = request_tick(s, state, said.count, said.contact, request, reply);
-        out.tick(rt, t, reply)?;
+        out = out.tick(rt, t, reply)?;
         state = t.state;
         line = next_line(input, space, line)?;
     }
     // A line is there and could not be read, or the log has ended.
     if line.here {
-        out.refused(rt, line.number)?;
+        out = out.refused(rt, line.number)?;
     }
-    out.write(rt)
+    out.written(rt)?;
+    Ok(())
 }
 
 // Tells the opening's answer; under accepted settings the ticks run.

@@ -19,46 +19,48 @@ fn gate(open: bool, letter: u8) -> u8 {
     if open { letter } else { b'-' }
 }
 
-impl Output {
+impl<'a> Output<'a> {
     // The settings are accepted.
-    pub(crate) fn opened(&mut self) {
-        self.put(b"answer=0\n");
+    pub(crate) fn opened(self) -> Self {
+        self.put(b"answer=0\n")
     }
 
     // The line with this number can't be read.
-    pub(crate) fn refused(&mut self, rt: &impl Print, number: u64) -> io::Result<()> {
-        self.make_room(rt)?;
-        self.put(b"refused=");
-        self.number(number);
-        self.byte(b'\n');
-        Ok(())
+    pub(crate) fn refused(self, rt: &impl Print, number: u64) -> io::Result<Self> {
+        let out = self.with_room(rt)?;
+        Ok(out.put(b"refused=").number(number).byte(b'\n'))
     }
 
-    fn reading(&mut self, x: Reading) {
-        self.put(b" good=");
-        self.flag(x.good);
-        self.put(b" gross=");
-        self.signed(i64::from(x.gross));
-        self.put(b" net=");
-        self.signed(i64::from(x.net));
-        self.put(b" overload=");
-        self.flag(x.overload);
-        self.put(b" stable=");
-        self.flag(x.stable);
+    fn reading(self, x: Reading) -> Self {
+        self.put(b" good=")
+            .flag(x.good)
+            .put(b" gross=")
+            .signed(i64::from(x.gross))
+            .put(b" net=")
+            .signed(i64::from(x.net))
+            .put(b" overload=")
+            .flag(x.overload)
+            .put(b" stable=")
+            .flag(x.stable)
+    }
+
+    // A stage has two digits.
+    fn stage(self, stage: Stage) -> Self {
+        self.put(b" stage=")
+            .digits::<10>(u64::from(stage_number(stage)), 2)
     }
 
     // Four characters.
-    fn gates(&mut self, g: Gates) {
-        self.put(b" gates=");
-        self.put(&[
+    fn gates(self, g: Gates) -> Self {
+        self.put(b" gates=").put(&[
             gate(g.large, b'L'),
             gate(g.medium, b'M'),
             gate(g.small, b'S'),
             gate(g.discharge, b'D'),
-        ]);
+        ])
     }
 
-    fn judgement(&mut self, j: Option<Judgement>) {
+    fn judgement(self, j: Option<Judgement>) -> Self {
         match j {
             None => self.put(b" judgement=none"),
             Some(Judgement::Ok) => self.put(b" judgement=ok"),
@@ -67,85 +69,77 @@ impl Output {
         }
     }
 
+    fn signals(self, error: Option<SequenceError>, near: bool, full: bool) -> Self {
+        self.put(b" error=")
+            .number(u64::from(error_number(error)))
+            .put(b" nearzero=")
+            .flag(near)
+            .put(b" full=")
+            .flag(full)
+    }
+
     // No value of the analog board is NaN; its bits are shown.
-    fn float(&mut self, x: f64) {
+    fn float(self, x: f64) -> Self {
         if x.is_nan() {
-            self.byte(b'-');
-        } else {
-            self.bits(x.to_bits(), 16);
+            return self.byte(b'-');
         }
+        self.digits::<16>(x.to_bits(), 16)
     }
 
-    fn analog(&mut self, a: Option<Analog>) {
-        self.put(b" analog=");
+    fn analog(self, a: Option<Analog>) -> Self {
+        let out = self.put(b" analog=");
         match a {
-            None => self.byte(b'-'),
-            Some(Analog::Current(x) | Analog::Voltage(x)) => self.float(x),
+            None => out.byte(b'-'),
+            Some(Analog::Current(x) | Analog::Voltage(x)) => out.float(x),
         }
     }
 
-    fn signals(&mut self, error: Option<SequenceError>, near: bool, full: bool) {
-        self.put(b" error=");
-        self.number(u64::from(error_number(error)));
-        self.put(b" nearzero=");
-        self.flag(near);
-        self.put(b" full=");
-        self.flag(full);
+    fn outputs(self, a: Answer) -> Self {
+        self.reading(a.reading)
+            .stage(a.stage)
+            .gates(a.gates)
+            .judgement(a.judgement)
+            .signals(a.error, a.near, a.full)
+            .analog(a.analog)
     }
 
-    // A stage has two digits.
-    fn stage(&mut self, stage: Stage) {
-        self.put(b" stage=");
-        self.digits(u64::from(stage_number(stage)), 2);
+    fn weighing(self, w: Weighing) -> Self {
+        self.put(b" zero=")
+            .signed(i64::from(w.zero))
+            .put(b" tracked=")
+            .signed(i64::from(w.tracked))
+            .put(b" tare=")
+            .signed(i64::from(w.tare))
     }
 
-    fn outputs(&mut self, a: Answer) {
-        self.reading(a.reading);
-        self.stage(a.stage);
-        self.gates(a.gates);
-        self.judgement(a.judgement);
-        self.signals(a.error, a.near, a.full);
-        self.analog(a.analog);
+    fn book(self, b: Book) -> Self {
+        self.put(b" opening=")
+            .signed(i64::from(b.opening))
+            .put(b" refilled=")
+            .signed(b.refilled)
+            .put(b" used=")
+            .signed(b.used)
+            .put(b" unbooked=")
+            .signed(b.unbooked)
+            .put(b" last=")
+            .signed(i64::from(b.last))
     }
 
-    fn weighing(&mut self, w: Weighing) {
-        self.put(b" zero=");
-        self.signed(i64::from(w.zero));
-        self.put(b" tracked=");
-        self.signed(i64::from(w.tracked));
-        self.put(b" tare=");
-        self.signed(i64::from(w.tare));
+    fn totals(self, t: Totals) -> Self {
+        self.put(b" total=")
+            .number(t.total)
+            .put(b" batches=")
+            .number(u64::from(t.count))
     }
 
-    fn book(&mut self, b: Book) {
-        self.put(b" opening=");
-        self.signed(i64::from(b.opening));
-        self.put(b" refilled=");
-        self.signed(b.refilled);
-        self.put(b" used=");
-        self.signed(b.used);
-        self.put(b" unbooked=");
-        self.signed(b.unbooked);
-        self.put(b" last=");
-        self.signed(i64::from(b.last));
-    }
-
-    fn totals(&mut self, t: Totals) {
-        self.put(b" total=");
-        self.number(t.total);
-        self.put(b" batches=");
-        self.number(u64::from(t.count));
-    }
-
-    fn next(&mut self, n: u32) {
-        self.byte(b',');
-        self.number(u64::from(n));
+    fn next(self, n: u32) -> Self {
+        self.byte(b',').number(u64::from(n))
     }
 
     // Number by number: a struct of them would be copied first, from the gap before it on, by reads that wait for the writes of the tick
     // (docs/COST.md).
     fn points(
-        &mut self,
+        self,
         target: u32,
         fall: u32,
         preliminary: u32,
@@ -153,32 +147,33 @@ impl Output {
         over: u32,
         under: u32,
         near: u32,
-    ) {
-        self.number(u64::from(target));
-        self.next(fall);
-        self.next(preliminary);
-        self.next(optional);
-        self.next(over);
-        self.next(under);
-        self.next(near);
+    ) -> Self {
+        self.number(u64::from(target))
+            .next(fall)
+            .next(preliminary)
+            .next(optional)
+            .next(over)
+            .next(under)
+            .next(near)
     }
 
     // Those in use, then those waiting: a dash where there are none.
-    fn setpoints(&mut self, p: Setpoints, waiting: Option<Setpoints>) {
-        self.put(b" setpoints=");
-        self.points(
-            p.target,
-            p.fall,
-            p.preliminary,
-            p.optional,
-            p.over,
-            p.under,
-            p.near,
-        );
-        self.put(b" waiting=");
+    fn setpoints(self, p: Setpoints, waiting: Option<Setpoints>) -> Self {
+        let out = self
+            .put(b" setpoints=")
+            .points(
+                p.target,
+                p.fall,
+                p.preliminary,
+                p.optional,
+                p.over,
+                p.under,
+                p.near,
+            )
+            .put(b" waiting=");
         match waiting {
-            None => self.byte(b'-'),
-            Some(n) => self.points(
+            None => out.byte(b'-'),
+            Some(n) => out.points(
                 n.target,
                 n.fall,
                 n.preliminary,
@@ -190,23 +185,24 @@ impl Output {
         }
     }
 
-    fn state(&mut self, st: State) {
-        self.weighing(st.weighing);
-        self.book(st.book);
-        self.totals(st.totals);
-        self.setpoints(st.setpoints, st.waiting);
-        self.byte(b'\n');
+    fn state(self, st: State) -> Self {
+        self.weighing(st.weighing)
+            .book(st.book)
+            .totals(st.totals)
+            .setpoints(st.setpoints, st.waiting)
+            .byte(b'\n')
     }
 
     // The output so far is written out where a line may not find room behind it. The reply's bytes are the first of its buffer.
-    pub(crate) fn tick(&mut self, rt: &impl Print, t: LineTick, reply: &[u8]) -> io::Result<()> {
-        self.make_room(rt)?;
-        self.put(b"answer=");
-        self.number(u64::from(told_number(t.told)));
-        self.put(b" reply=");
-        self.hex(part(reply, 0, t.length));
-        self.outputs(t.answer);
-        self.state(t.state);
-        Ok(())
+    pub(crate) fn tick(self, rt: &impl Print, t: LineTick, reply: &[u8]) -> io::Result<Self> {
+        let out = self.with_room(rt)?;
+        Ok(
+            out.put(b"answer=")
+                .number(u64::from(told_number(t.told)))
+                .put(b" reply=")
+                .hex(part(reply, 0, t.length))
+                .outputs(t.answer)
+                .state(t.state),
+        )
     }
 }
