@@ -92,10 +92,8 @@ impl<'a> Output<'a> {
     }
 
     pub(crate) fn signed(self, n: i64) -> Self {
-        if n < 0 {
-            return self.byte(b'-').number(n.unsigned_abs());
-        }
-        self.number(n.unsigned_abs())
+        let out = if n < 0 { self.byte(b'-') } else { self };
+        out.number(n.unsigned_abs())
     }
 
     pub(crate) fn flag(self, set: bool) -> Self {
