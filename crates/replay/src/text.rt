@@ -63,7 +63,12 @@ impl<'a> Output<'a> {
     }
 
     pub(crate) fn byte(self, byte: u8) -> Self {
-        self.put(&[byte])
+        let Output { buffer, at } = self;
+        if buffer.len() <= at {
+            return Output { buffer, at };
+        }
+        buffer[at] = byte;
+        Output { buffer, at: at + 1 }
     }
 
     // The last k digits, from the right to the left.
