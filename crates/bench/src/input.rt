@@ -1,6 +1,6 @@
 // The benchmark's input. A number is three bytes, the least first; the numbers, by their places:
 //
-//     0          the mode: 1 a block's ticks, 2 ticks without a request, 3 ticks with a request, 4 ticks with a line
+//     0          the mode: 1 a block's ticks, 2 ticks without a request, 3 ticks with a request, else ticks with a line
 //     1          the rounds
 //     2 to 26    the settings, in the order of the outline's table, and then those of a discharge
 //     27 to 33   the setpoints, in the order of the command SS
@@ -28,33 +28,42 @@ const BLOCK: usize = 4_096;
 // The counts of a round.
 pub(crate) const COUNTS: usize = 12_288;
 
+// What the ticks come with.
+#[derive(Clone, Copy)]
+pub(crate) enum Mode {
+    Block,
+    Unasked,
+    Asked,
+    Line,
+}
+
 // What is asked for, but for the settings.
 #[derive(Clone, Copy)]
 pub(crate) struct Head {
-    pub mode: u32,
+    pub mode: Mode,
     pub rounds: u32,
     pub points: Setpoints,
     pub first: i32,
     pub contact: bool,
 }
 
-fn joined(a: u8, b: u8, c: u8) -> u32
-    ensures { result < 16777216 }
-{
-    (a as u32) + (b as u32) * 256 + (c as u32) * 65_536
+fn mode_of(n: u32) -> Mode {
+    match n {
+        1 => Mode::Block,
+        2 => Mode::Unasked,
+        3 => Mode::Asked,
+        _ => Mode::Line,
+    }
 }
 
 // The number whose bytes begin at a place.
 fn number_from(bytes: &[u8], at: usize) -> u32
     ensures { result < 16777216 }
 {
-    if bytes.len() < NUMBER_BYTES {
-        return 0;
+    match bytes.get(at..) {
+        Some([a, b, c, ..]) => u32::from(*a) + u32::from(*b) * 256 + u32::from(*c) * 65_536,
+        _ => 0,
     }
-    if bytes.len() - NUMBER_BYTES < at {
-        return 0;
-    }
-    joined(bytes[at], bytes[at + 1], bytes[at + 2])
 }
 
 fn number(bytes: &[u8], i: usize) -> u32
@@ -114,7 +123,7 @@ fn setpoints(bytes: &[u8]) -> Setpoints {
 
 pub(crate) fn head_of(bytes: &[u8]) -> Head {
     Head {
-        mode: number(bytes, 0),
+        mode: mode_of(number(bytes, 0)),
         rounds: number(bytes, 1),
         points: setpoints(bytes),
         first: signed(bytes, 34),
@@ -124,10 +133,7 @@ pub(crate) fn head_of(bytes: &[u8]) -> Head {
 
 // The 16 lines, one behind the other.
 pub(crate) fn lines(bytes: &[u8]) -> &[u8] {
-    if bytes.len() < COUNTS_AT {
-        return &bytes[..0];
-    }
-    &bytes[LINES_AT..COUNTS_AT]
+    bytes.get(LINES_AT..COUNTS_AT).unwrap_or(&[])
 }
 
 fn count_at(bytes: &[u8], i: usize) -> i32 {
@@ -138,47 +144,22 @@ fn count_at(bytes: &[u8], i: usize) -> i32 {
 }
 
 pub(crate) fn fill(bytes: &[u8], counts: &mut [i32]) {
-    let mut i = 0;
-    while i < counts.len() {
-        counts[i] = count_at(bytes, i);
-        i += 1;
+    for (i, count) in counts.iter_mut().enumerate() {
+        *count = count_at(bytes, i);
     }
 }
 
 // How many counts the input has.
 pub(crate) fn counts_in(bytes: &[u8]) -> usize {
-    if bytes.len() < COUNTS_AT {
-        return 0;
-    }
-    (bytes.len() - COUNTS_AT) / NUMBER_BYTES
-}
-
-// The counts from a place to an end, as far as there are any.
-fn part(counts: &[i32], from: usize, end: usize) -> &[i32] {
-    if end <= from {
-        return &counts[..0];
-    }
-    if end < counts.len() {
-        return &counts[from..end];
-    }
-    if from < counts.len() {
-        return &counts[from..];
-    }
-    &counts[..0]
+    bytes.len().saturating_sub(COUNTS_AT) / NUMBER_BYTES
 }
 
 // The first n counts.
 pub(crate) fn first_counts(counts: &[i32], n: usize) -> &[i32] {
-    part(counts, 0, n)
+    counts.get(..n).unwrap_or(counts)
 }
 
 // A block of the three.
-pub(crate) fn block(counts: &[i32], i: u64) -> &[i32] {
-    if i == 0 {
-        return part(counts, 0, BLOCK);
-    }
-    if i == 1 {
-        return part(counts, BLOCK, 2 * BLOCK);
-    }
-    part(counts, 2 * BLOCK, 3 * BLOCK)
+pub(crate) fn block(counts: &[i32], i: usize) -> &[i32] {
+    counts.chunks(BLOCK).nth(i).unwrap_or(&[])
 }

@@ -6,13 +6,12 @@
 #![tactic(auto)]
 
 use crate::digest::Seen;
-use crate::input::Head;
+use crate::input::{Head, Mode};
 use crate::modes::{Run, asked_ticks, block_ticks, line_ticks, unasked_ticks};
 use controller::opening::{open, open_state};
 use std::io::{self, Read};
 use types::requests::Request;
 use types::settings::Settings;
-use types::stages::Setpoints;
 
 mod digest;
 mod input;
@@ -21,31 +20,8 @@ mod modes;
 // The bytes of the input that are read.
 const SPACE_BYTES: u64 = 65_536;
 
-// The blocks of a round.
-const BLOCKS: u64 = 3;
-
 fn print(rt: &impl Print, name: &str, n: u64) -> io::Result<()> {
     println!(rt; "{name}{n}")
-}
-
-fn unseen() -> Seen {
-    Seen {
-        gross: 0,
-        net: 0,
-        flags: 0,
-        replied: 0,
-    }
-}
-
-// The request before a block.
-fn request_of(block: u64, points: Setpoints) -> Option<Request> {
-    if block == 0 {
-        return Some(Request::Set(points));
-    }
-    if block == 1 {
-        return Some(Request::Start);
-    }
-    Some(Request::Stop)
 }
 
 // Each mode takes the first count once before anything is measured. So the state that a mode begins with is no constant to the
@@ -56,7 +32,7 @@ fn started(s: Settings, head: Head, bytes: &[u8], reply: &mut [u8]) -> Run {
     let contact = head.contact;
     let run = Run {
         state: open_state(s),
-        seen: unseen(),
+        seen: Seen::default(),
         ticks: 0,
     };
     let run = block_ticks(s, run, Some(Request::Set(points)), &first, contact);
@@ -65,23 +41,22 @@ fn started(s: Settings, head: Head, bytes: &[u8], reply: &mut [u8]) -> Run {
     line_ticks(s, run, input::lines(bytes), &first, contact, reply)
 }
 
-// One block in the mode that is asked for.
+// One block in the mode that is asked for. Before it the modes 1 and 2 have a tick with the request.
 fn turned(
     s: Settings,
     run: Run,
     head: Head,
-    block: u64,
+    request: Request,
     bytes: &[u8],
     counts: &[i32],
     reply: &mut [u8],
 ) -> Run {
-    let mode = head.mode;
     let contact = head.contact;
-    match mode {
-        1 => return block_ticks(s, run, request_of(block, head.points), counts, contact),
-        2 => return unasked_ticks(s, run, request_of(block, head.points), counts, contact),
-        3 => return asked_ticks(s, run, head.points, counts, contact),
-        _ => return line_ticks(s, run, input::lines(bytes), counts, contact, reply),
+    match head.mode {
+        Mode::Block => block_ticks(s, run, Some(request), counts, contact),
+        Mode::Unasked => unasked_ticks(s, run, Some(request), counts, contact),
+        Mode::Asked => asked_ticks(s, run, head.points, counts, contact),
+        Mode::Line => line_ticks(s, run, input::lines(bytes), counts, contact, reply),
     }
 }
 
@@ -94,20 +69,12 @@ fn run_rounds(
 ) -> io::Result<()> {
     let mut reply = [0u8; 64];
     let mut run = started(s, head, bytes, &mut reply);
-    let turns = (head.rounds as u64) * BLOCKS;
-    let mut turn: u64 = 0;
-    while turn < turns {
-        let block = turn % BLOCKS;
-        run = turned(
-            s,
-            run,
-            head,
-            block,
-            bytes,
-            input::block(counts, block),
-            &mut reply,
-        );
-        turn += 1;
+    let requests = [Request::Set(head.points), Request::Start, Request::Stop];
+    for _ in 0..head.rounds {
+        for (i, &request) in requests.iter().enumerate() {
+            let block = input::block(counts, i);
+            run = turned(s, run, head, request, bytes, block, &mut reply);
+        }
     }
     print(rt, "ticks=", run.ticks)?;
     print(rt, "digest=", digest::of_state(run.state))?;

@@ -22,7 +22,7 @@ pub(crate) struct Run {
 }
 
 fn more(ticks: u64, n: usize) -> u64 {
-    std::num::wrapping_add_u64(ticks, n as u64)
+    ticks.wrapping_add(n as u64)
 }
 
 // The tick between two blocks.
@@ -47,11 +47,9 @@ pub(crate) fn block_ticks(
     contact: bool,
 ) -> Run {
     let done = run_block(s, between(s, run.state, request, contact), counts, contact);
-    let state = done.state;
-    let seen = run.seen;
     Run {
-        state,
-        seen,
+        state: done.state,
+        seen: run.seen,
         ticks: more(more(run.ticks, 1), counts.len()),
     }
 }
@@ -65,13 +63,10 @@ pub(crate) fn unasked_ticks(
 ) -> Run {
     let mut state = between(s, run.state, request, contact);
     let mut seen = run.seen;
-    let mut i = 0;
-    while i < counts.len() {
-        let count = counts[i];
+    for &count in counts {
         let ticked = unasked_tick(s, state, count, contact);
         state = ticked.state;
         seen = looked(seen, ticked.answer);
-        i += 1;
     }
     Run {
         state,
@@ -106,9 +101,7 @@ pub(crate) fn asked_ticks(
 ) -> Run {
     let mut state = run.state;
     let mut seen = run.seen;
-    let mut i = 0;
-    while i < counts.len() {
-        let count = counts[i];
+    for (i, &count) in counts.iter().enumerate() {
         let ticked = tick(
             s,
             state,
@@ -120,7 +113,6 @@ pub(crate) fn asked_ticks(
         );
         state = ticked.state;
         seen = looked(seen, ticked.answer);
-        i += 1;
     }
     Run {
         state,
@@ -132,11 +124,7 @@ pub(crate) fn asked_ticks(
 // The lines in turn; what is behind the CR LF is no part of a line.
 fn line_of(lines: &[u8], i: usize) -> &[u8] {
     let from = i % LINES * LINE_BYTES;
-    let end = from + LINE_BYTES;
-    if lines.len() < end {
-        return &lines[..0];
-    }
-    &lines[from..end]
+    lines.get(from..from + LINE_BYTES).unwrap_or(&[])
 }
 
 pub(crate) fn line_ticks(
@@ -149,12 +137,10 @@ pub(crate) fn line_ticks(
 ) -> Run {
     let mut state = run.state;
     let mut seen = run.seen;
-    let mut i = 0;
-    while i < counts.len() {
-        let ticked = line_tick(s, state, counts[i], contact, line_of(lines, i), reply);
+    for (i, &count) in counts.iter().enumerate() {
+        let ticked = line_tick(s, state, count, contact, line_of(lines, i), reply);
         state = ticked.state;
         seen = looked_at_line(seen, ticked);
-        i += 1;
     }
     Run {
         state,

@@ -1,130 +1,119 @@
 // Text into the output's buffer, each piece behind the one before. The room is tested once for each piece, since this is most of what
 // replay does: a piece that finds no room is left out whole, and the next goes to its place. The buffer is written out in time, so
 // that none is.
-ghost use Rattle.std.specs.Prelude.{◌≡◌, ◌+◌, leb};
+ghost use Rattle.std.specs.Prelude.{◌≡◌, ◌+◌, ◌<◌, ◌≤◌, leb};
 
-// The most digits of a u64.
-const DIGIT_LIMIT: usize = 20;
+use logs::pieces::part;
+use std::io;
 
-// A minus; or nothing to show.
-pub(crate) const DASH: u8 = 45;
+// The output is written when fewer bytes than a tick's line may need are left of its buffer.
+const LINE_ROOM: usize = 1_024;
 
 // n bytes at a place end within a buffer of this length.
 fn has_room(length: usize, at: usize, n: usize) -> bool
     ensures { result ≡ leb (at + n) length }
 {
-    if length < n {
-        return false;
-    }
-    if length - n < at {
-        return false;
-    }
-    true
+    n <= length && at <= length - n
 }
 
-pub(crate) fn put_byte(out: &mut [u8], at: usize, byte: u8) -> usize {
-    if at < out.len() {
-        out[at] = byte;
-        return at + 1;
-    }
-    at
+// The last digit of a number, and so of one below the radix the digit.
+fn last_digit<const RADIX: u64>(n: u64) -> u8
+    requires { (0 < RADIX) × (RADIX ≤ 16) }
+{
+    let d = (n % RADIX) as u8;
+    if d < 10 { b'0' + d } else { b'a' - 10 + d }
 }
 
-pub(crate) fn put(out: &mut [u8], at: usize, text: &[u8]) -> usize {
-    if !has_room(out.len(), at, text.len()) {
-        return at;
-    }
-    let mut i: usize = 0;
-    while i < text.len() {
-        out[at + i] = text[i];
-        i += 1;
-    }
-    at + text.len()
+// What is still to be written: the first bytes of a lent buffer. Each method gives it back with its text behind: so the place stays in a
+// register, where a method that is lent the whole would write and read it each time.
+#[derive(Drop)]
+pub(crate) struct Output<'a> {
+    buffer: &'a mut [u8],
+    at: usize,
 }
 
-// How many digits a number has.
-fn digits_of(n: u64) -> usize {
-    let mut k: usize = 1;
-    let mut rest = n;
-    while k < DIGIT_LIMIT {
-        if rest < 10 {
-            return k;
+impl<'a> Output<'a> {
+    pub(crate) fn new(buffer: &'a mut [u8]) -> Self {
+        Output { buffer, at: 0 }
+    }
+
+    // Writes out what there is.
+    pub(crate) fn written(self, rt: &impl Print) -> io::Result<Self> {
+        let Output { buffer, at } = self;
+        rt.write_all(part(buffer, 0, at))?;
+        Ok(Output { buffer, at: 0 })
+    }
+
+    // Writes out what there is, where a line may not find room behind it.
+    pub(crate) fn with_room(self, rt: &impl Print) -> io::Result<Self> {
+        if has_room(self.buffer.len(), self.at, LINE_ROOM) {
+            return Ok(self);
         }
-        rest /= 10;
-        k += 1;
+        self.written(rt)
     }
-    k
-}
 
-// The last k digits, from the right to the left.
-pub(crate) fn put_digits(out: &mut [u8], at: usize, n: u64, k: usize) -> usize {
-    if !has_room(out.len(), at, k) {
-        return at;
+    pub(crate) fn put(self, text: &[u8]) -> Self {
+        let Output { buffer, at } = self;
+        if !has_room(buffer.len(), at, text.len()) {
+            return Output { buffer, at };
+        }
+        let end = at + text.len();
+        buffer[at..end].copy_from_slice(text);
+        Output { buffer, at: end }
     }
-    let mut rest = n;
-    let mut i = k;
-    while 0 < i {
-        i -= 1;
-        out[at + i] = 48 + (rest % 10) as u8;
-        rest /= 10;
-    }
-    at + k
-}
 
-// Most numbers of a tick have one digit.
-pub(crate) fn put_number(out: &mut [u8], at: usize, n: u64) -> usize {
-    if n < 10 {
-        return put_byte(out, at, 48 + n as u8);
+    pub(crate) fn byte(self, byte: u8) -> Self {
+        let Output { buffer, at } = self;
+        if buffer.len() <= at {
+            return Output { buffer, at };
+        }
+        buffer[at] = byte;
+        Output { buffer, at: at + 1 }
     }
-    put_digits(out, at, n, digits_of(n))
-}
 
-pub(crate) fn put_signed(out: &mut [u8], at: usize, n: i64) -> usize {
-    if n < 0 {
-        let behind = put_byte(out, at, DASH);
-        return put_number(out, behind, whole::magnitude(n));
+    // The last k digits, from the right to the left.
+    pub(crate) fn digits<const RADIX: u64>(self, n: u64, k: usize) -> Self
+        requires { (0 < RADIX) × (RADIX ≤ 16) }
+    {
+        let Output { buffer, at } = self;
+        if !has_room(buffer.len(), at, k) {
+            return Output { buffer, at };
+        }
+        let end = at + k;
+        let mut rest = n;
+        for digit in buffer[at..end].iter_mut().rev() {
+            *digit = last_digit::<RADIX>(rest);
+            rest /= RADIX;
+        }
+        Output { buffer, at: end }
     }
-    put_number(out, at, whole::magnitude(n))
-}
 
-pub(crate) fn put_flag(out: &mut [u8], at: usize, set: bool) -> usize {
-    put_byte(out, at, if set { 49 } else { 48 })
-}
-
-fn hex_digit(n: u64) -> u8 {
-    let d = (n % 16) as u8;
-    if d < 10 { 48 + d } else { 87 + d }
-}
-
-// The last k hex digits of 64 bits.
-pub(crate) fn put_bits(out: &mut [u8], at: usize, bits: u64, k: usize) -> usize {
-    if !has_room(out.len(), at, k) {
-        return at;
+    // Most numbers of a tick have one digit.
+    pub(crate) fn number(self, n: u64) -> Self {
+        if n < 10 {
+            return self.byte(b'0' + n as u8);
+        }
+        self.digits::<10>(n, n.ilog10() as usize + 1)
     }
-    let mut rest = bits;
-    let mut i = k;
-    while 0 < i {
-        i -= 1;
-        out[at + i] = hex_digit(rest);
-        rest /= 16;
-    }
-    at + k
-}
 
-// Bytes in hex, two digits each; `-` where there is none.
-pub(crate) fn put_hex(out: &mut [u8], at: usize, bytes: &[u8]) -> usize {
-    if bytes.len() == 0 {
-        return put_byte(out, at, DASH);
+    pub(crate) fn signed(self, n: i64) -> Self {
+        let out = if n < 0 { self.byte(b'-') } else { self };
+        out.number(n.unsigned_abs())
     }
-    let mut n = at;
-    let mut i: usize = 0;
-    while i < bytes.len() {
-        n = put_bits(out, n, wide_byte(bytes[i]), 2);
-        i += 1;
-    }
-    n
-}
 
-fn wide_byte(byte: u8) -> u64 {
-    byte as u64
+    pub(crate) fn flag(self, set: bool) -> Self {
+        self.byte(if set { b'1' } else { b'0' })
+    }
+
+    // Bytes in hex, two digits each; `-` where there is none.
+    pub(crate) fn hex(self, bytes: &[u8]) -> Self {
+        if bytes.is_empty() {
+            return self.byte(b'-');
+        }
+        let mut out = self;
+        for &byte in bytes {
+            out = out.digits::<16>(u64::from(byte), 2);
+        }
+        out
+    }
 }
