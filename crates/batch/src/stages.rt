@@ -23,7 +23,8 @@ pub(crate) fn fail(q: Sequence, e: SequenceError) -> Advanced
 
 // It stays in its stage or moves to another, with the clock of this tick.
 pub(crate) fn to(q: Sequence, clock: u16, stage: Stage) -> Advanced
-    ensures { result ≡ (record { sequence = record { stage = stage; clock = clock; error = q.error; judgement = q.judgement }; finished = false }) }
+    ensures { result
+        ≡ (record { sequence = record { stage = stage; clock = clock; error = q.error; judgement = q.judgement }; finished = false }) }
 {
     Advanced {
         sequence: Sequence {
@@ -38,7 +39,8 @@ pub(crate) fn to(q: Sequence, clock: u16, stage: Stage) -> Advanced
 
 // A batch finishes.
 fn finish(q: Sequence, judgement: Judgement) -> Advanced
-    ensures { result ≡ (record { sequence = record { stage = Stage.Idle; clock = 0; error = q.error; judgement = judgement }; finished = true }) }
+    ensures { result
+        ≡ (record { sequence = record { stage = Stage.Idle; clock = 0; error = q.error; judgement = judgement }; finished = true }) }
 {
     Advanced {
         sequence: Sequence {

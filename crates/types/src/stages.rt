@@ -39,8 +39,8 @@ pub enum Judgement {
     Under,
 }
 
-// None; of a batch errors 1, 2, 4, 6, 9 and 10; of a discharge 7, 8 and 9. None is a variant here and in a judgement: with an Option of each
-// a sequence is ten bytes and not eight, and a tick's stack was 676 bytes where bench/stack allows 640.
+// None; of a batch errors 1, 2, 4, 6, 9 and 10; of a discharge 7, 8 and 9. None is a variant here and in a judgement: with an Option of
+// each a sequence is ten bytes and not eight, and a tick's stack was 676 bytes where bench/stack allows 640.
 #[derive(Clone, Copy)]
 pub enum SequenceError {
     None,
