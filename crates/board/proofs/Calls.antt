@@ -47,10 +47,10 @@ use Rattle.board.specs.Board.{images_refusal, call_refusal, given_by, settings_b
 use Rattle.board.specs.Owed.{Call, tick, line, block, image_after, image_run, ticks_of, state_run, history_of, CallsAreTicks, OpensARun, CallsAreRuns, GrowsPass, GrownBack, GrowsARun, GrowsEarlier, LengthTold}
 
 -- ---- what is not refused: settings that were accepted, and a state that its image gives back
-record Passed (l t : List ℕ) : Type 0 where
-  given : (given_in l).refusal ≡ 0
-  state : (state_in (given_by l) t).refusal ≡ 0
-  opened : open_of (given_by l) ≡ Some (settings_by l)
+pub record Passed (l t : List ℕ) : Type 0 where
+  pub given : (given_in l).refusal ≡ 0
+  pub state : (state_in (given_by l) t).refusal ≡ 0
+  pub opened : open_of (given_by l) ≡ Some (settings_by l)
 
 opens : (g : Given) → opening_number (open_of g) ≡ 0 → open_of g ≡ Some (settings_of g)
 unfolding open_of
@@ -61,7 +61,7 @@ opens g = go (settings_fit g)
     go false e = absurd (omega arith)
 
 -- none of the two images is refused, nor the settings
-none : (a b o : ℕ) → ◌≡◌ {A = ℕ} (cond (eqb (images_refusal a b) 0) o (images_refusal a b)) 0 → (a ≡ 0) × (b ≡ 0) × (o ≡ 0)
+pub none : (a b o : ℕ) → ◌≡◌ {A = ℕ} (cond (eqb (images_refusal a b) 0) o (images_refusal a b)) 0 → (a ≡ 0) × (b ≡ 0) × (o ≡ 0)
 unfolding images_refusal
 none a b o = go (eqb a 20) (eqb b 20) (eqb a 0) refl
   where
@@ -79,7 +79,7 @@ none a b o = go (eqb a 20) (eqb b 20) (eqb a 0) refl
     go false false true k h = let e = last (eqb b 0) refl h in (eqb-true a 0 k, e.0, e.1)
     go false false false k h = absurd (clash (kept (eqb a 0) refl h) k)
 
-passes : (l t : List ℕ) → refusal_by l t ≡ 0 → Passed l t
+pub passes : (l t : List ℕ) → refusal_by l t ≡ 0 → Passed l t
 unfolding refusal_by call_refusal
 passes l t e =
     let n = none (given_in l).refusal (state_in (given_by l) t).refusal (opening_number (open_of (given_by l))) e in
@@ -192,7 +192,7 @@ length_told s st count contact receive reply =
     simp (lt-ltb (line_tick_of s st count contact receive reply).length 256 (omega (arith, (reply_bounded s st count contact receive reply).line)))
 
 -- ---- a grown image
-earlier_passes : (l e : List ℕ) → earlier_by l e ≡ 0 → (earlier_refusal e ≡ 0) × (possible (settings_by l) (state_at e) ≡ true)
+pub earlier_passes : (l e : List ℕ) → earlier_by l e ≡ 0 → (earlier_refusal e ≡ 0) × (possible (settings_by l) (state_at e) ≡ true)
 unfolding earlier_by
 earlier_passes l e = go (eqb (earlier_refusal e) 0) (possible (settings_by l) (state_at e)) refl
   where

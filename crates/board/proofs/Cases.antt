@@ -110,7 +110,7 @@ pub same_block : {s s' : Settings} {st st' : State} (counts : List ℤ) (contact
 same_block counts contact e f = λ k. block_of (e k) (f k) counts contact
 
 -- ---- the settings' length
-given_passes : (a b : ℕ) → images_refusal a b ≡ 0 → a ≡ 0
+pub given_passes : (a b : ℕ) → images_refusal a b ≡ 0 → a ≡ 0
 unfolding images_refusal
 given_passes a b = go (eqb a 20) (eqb b 20) (eqb a 0) refl
   where
@@ -120,7 +120,7 @@ given_passes a b = go (eqb a 20) (eqb b 20) (eqb a 0) refl
     go false false true k e = eqb-true a 0 k
     go false false false k e = e
 
-given_long : (l : List ℕ) → (given_in l).refusal ≡ 0 → length l ≡ given_length
+pub given_long : (l : List ℕ) → (given_in l).refusal ≡ 0 → length l ≡ given_length
 unfolding given_in given_refusal
 given_long l = go (eqb (length l) given_length) refl
   where

@@ -1,7 +1,7 @@
 pub mod InTwo
 pub mod InOrder
 pub mod Replied
-pub mod Done
 pub mod Held
 pub mod Cases
+pub mod Refused
 pub mod Calls

@@ -32,8 +32,7 @@ use Rattle.outline.specs.Numbers.{told_number}
 use Rattle.outline.specs.Tick.{entered_of, weights_of, settled_of, served_of, reading_of, outputs_of, tick_of, unasked_of}
 use Rattle.outline.specs.Lines.{command_of}
 use Rattle.outline.specs.Replies.{word_request, request_of, shown_of, word_reply, reply_text, reply_due, told_of, line_ticked, line_tick_of, written_of, reply_buffer}
-use Rattle.replies.specs.declared.Wrote.{Wrote}
-use Rattle.replies.specs.declared.Wrote.TheVariants.{Bytes, Short}
+use Rattle.replies.specs.declared.ShortBuffer.{ShortBuffer}
 use Rattle.replies.specs.Wrote.{wrote_of}
 use Rattle.serial.proofs.Parts.{fitted, short}
 use Rattle.images.specs.StateImage.{image_of}
@@ -106,8 +105,11 @@ pub record Lined (s : Settings) (st : State) (count : ℤ) (contact : Bool) (rec
   pub replied : after ≡ reply_buffer s st count contact receive buffer
   pub shown : answer ≡ answer_buffer (told_number (line_tick_of s st count contact receive buffer).told) (line_tick_of s st count contact receive buffer).length (line_tick_of s st count contact receive buffer).answer blank
 
-module _ (s : Settings) (st : State) (count : ℤ) (contact : Bool) (receive buffer : List ℕ) (c : Result Order LineFault) (q : Option Request) (x : Weights) (o : Result (Unit {0}) Refusal) (wrote : Wrote) (after : List ℕ)
+module _ (s : Settings) (st : State) (count : ℤ) (contact : Bool) (receive buffer : List ℕ) (c : Result Order LineFault) (q : Option Request) (x : Weights) (o : Result (Unit {0}) Refusal) (wrote : Result ℕ ShortBuffer) (after : List ℕ)
     (ec : c ≡ command_of receive s.address) (er : q ≡ request_of c) where
+  abbrev short_buffer : Result ℕ ShortBuffer
+  short_buffer = Err (record {})
+
   abbrev asked : Input
   asked = input_of count contact q
 
@@ -145,7 +147,7 @@ module _ (s : Settings) (st : State) (count : ℤ) (contact : Bool) (receive buf
       bytes = ea ∙ ap (λ (r : Option Reply). written_of (reply_text s.address r) buffer) same-due
 
       module _ (number : ℕ) (blank image answer : List ℕ) where
-        pub lined : (n : ℕ) → wrote ≡ Bytes n → number ≡ told_number (told_of c o) → Ran s st asked o number n blank image answer
+        pub lined : (n : ℕ) → wrote ≡ Ok n → number ≡ told_number (told_of c o) → Ran s st asked o number n blank image answer
             → Lined s st count contact receive buffer number blank image after answer
         lined n e et r =
             let f = fitted s st count contact receive buffer c q tick due wrote after ec er refl refl written bytes n e (told_of c tick.answer.outcome) refl (line_ticked (told_of c tick.answer.outcome) n tick) refl in
@@ -157,7 +159,7 @@ module _ (s : Settings) (st : State) (count : ℤ) (contact : Bool) (receive buf
               shown = r.shown ∙ (λ k. answer_buffer (same k) (f.0 k).length (f.0 k).answer blank);
             }
 
-        pub lined-short : wrote ≡ Short → number ≡ 14 → Ran s st (unasked_of count contact) (Ok tt) number 0 blank image answer
+        pub lined-short : wrote ≡ short_buffer → number ≡ 14 → Ran s st (unasked_of count contact) (Ok tt) number 0 blank image answer
             → Lined s st count contact receive buffer number blank image after answer
         lined-short e et r =
             let f = short s st count contact receive buffer c q tick due wrote after ec er refl refl written bytes e (line_ticked (Err told.ShortBuffer) 0 (tick_of s st (unasked_of count contact))) refl in

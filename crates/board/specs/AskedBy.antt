@@ -1,8 +1,9 @@
 -- What a tick is asked by a number: docs/IMAGES.md, 'Requests by number'. The numbers are the house's.
-use Rattle.std.specs.Prelude.{ℕ, List, Bool, cond, eqb, leb, length, get_or, Option, None, Some}
+use Rattle.std.specs.Prelude.{ℕ, List, Bool, true, false, cond, eqb, leb, length, get_or, Option, None, Some, Result, Ok, Err}
 use Rattle.types.specs.declared.stages.Setpoints.{Setpoints}
 use Rattle.types.specs.declared.requests.Request.{Request}
 use Rattle.types.specs.declared.requests.Request.TheVariants as request
+use Rattle.board.specs.declared.asked.NoRequest.{NoRequest}
 
 -- the number of a write of setpoints, and of the last request
 abbrev pub set_number : ℕ
@@ -46,3 +47,12 @@ request_by n points =
     (cond (eqb n 10) (Some request.ShowNet)
     (cond (eqb n 11) (Some request.DayClose)
     (cond (eqb n last_number) (Some request.Discharge) None)))))))))))
+
+-- what is read of a number: whether it is a request, and which
+abbrev pub is_known : Result (Option Request) NoRequest → Bool
+is_known (Ok r) = true
+is_known (Err e) = false
+
+abbrev pub request_in : Result (Option Request) NoRequest → Option Request
+request_in (Ok r) = r
+request_in (Err e) = None

@@ -4,28 +4,33 @@
 // its place.
 #![tactic(auto)]
 
-ghost use Rattle.std.specs.Prelude.{◌≡◌, cond, length};
+ghost use Rattle.std.specs.Prelude.{◌≡◌, cond, length, true, IfOk, Result, ℕ};
 ghost use Rattle.outline.specs.Numbers.{outcome_number, block_number, told_number};
+ghost use Rattle.outline.specs.Numbers.{opening_number};
 ghost use Rattle.outline.specs.Settings.{open_of};
 ghost use Rattle.outline.specs.Tick.{tick_of, block_of};
 ghost use Rattle.outline.specs.Replies.{line_tick_of, reply_buffer};
 ghost use Rattle.images.specs.GivenImage.{given_length, given_in};
 ghost use Rattle.types.specs.declared.machine.State.{State};
 ghost use Rattle.images.specs.StateImage.{earlier_length, image_of, state_at};
-ghost use Rattle.images.specs.Images.{bytes_refusal};
+ghost use Rattle.images.specs.Buffers.{is_image};
+ghost use Rattle.places.specs.Places.{Bytes};
+ghost use Rattle.images.specs.Refusals.{bytes_number};
 ghost use Rattle.images.specs.Holds.{Turns, Tells, with_panel};
 ghost use Rattle.outline.specs.Parts.{with_book, with_stability, with_weighing, with_setpoints, with_sequence, with_totals};
 ghost use Rattle.board.specs.Owed.{CallsAreTicks, OpensARun, CallsAreRuns, GrowsPass, GrowsARun, GrowsEarlier, LengthTold};
-ghost use Rattle.board.specs.Board.{images_refusal, given_by, length_refusal, open_answer, open_image, grow_answer, grow_image};
+ghost use Rattle.board.specs.Board.{images_refusal, given_by, settings_by, length_refusal, open_answer, open_image, grow_answer, grow_image};
 ghost use Rattle.board.specs.Board.{if_room, room_answer, room_image, room_buffer, input_of, told_of};
 ghost use Rattle.board.specs.Board.{tick_answer, tick_image, tick_buffer, line_answer, line_image, line_reply, line_buffer};
 ghost use Rattle.board.specs.Board.{block_answer, block_image};
+ghost use Rattle.board.specs.AskedBy.{is_known, request_in};
+ghost use Rattle.board.specs.Called.{refusal_number, told_by, done_number, opened_number, judged_number};
 
-use answer::put_none;
-use asked::{is_request, request_by};
+use answer::put_closed;
+use asked::{NoRequest, asked};
 use commands::command_of;
 use controller::block::BLOCK_LIMIT;
-use controller::opening::open;
+use controller::opening;
 use images::given::{given_at, given_refusal};
 use images::parts::{
     STATE_LENGTH, book_at, panel_at, put_book, put_panel, put_sequence, put_setpoints,
@@ -33,11 +38,14 @@ use images::parts::{
     weighing_at,
 };
 use images::possible::is_possible;
+use images::refusals::{ImageRefusal, image_number};
 use images::state::{bytes_refusal, earlier_refusal};
-use numbers::{NO_REQUEST, SHORT_BUFFER, WRONG_LENGTH, outcome_number, told_number};
-use replies::Wrote;
+use numbers::{
+    LONG_BLOCK, NO_REQUEST, SETTINGS_REFUSED, SHORT_BUFFER, outcome_number, told_number,
+};
+use replies::ShortBuffer;
 use replies::due::{request_of, told_of};
-use types::requests::Request;
+use types::requests::{Refusal, Request};
 use types::settings::Settings;
 
 mod answer;
@@ -47,51 +55,111 @@ mod steps;
 // The bytes of an answer.
 const ANSWER_LENGTH: usize = 64;
 
-// What the calls answer themselves, as C has it.
-const SETTINGS_REFUSED: u32 = numbers::SETTINGS_REFUSED as u32;
+// Why nothing is done of a call.
+#[derive(Clone, Copy)]
+enum CallRefusal {
+    Image(ImageRefusal),
+    Settings,
+    ShortBuffer,
+    LongBlock,
+}
 
-const SHORT: u32 = SHORT_BUFFER as u32;
+fn refusal_number(n: CallRefusal) -> u8
+    ensures { result ≡ refusal_number n }
+{
+    match n {
+        CallRefusal::Image(image) => image_number(image),
+        CallRefusal::Settings => SETTINGS_REFUSED,
+        CallRefusal::ShortBuffer => SHORT_BUFFER,
+        CallRefusal::LongBlock => LONG_BLOCK,
+    }
+}
 
-const LONG_BLOCK: u32 = numbers::LONG_BLOCK as u32;
+// What C is told.
+fn told(r: Result<u8, CallRefusal>) -> u32
+    ensures { result ≡ told_by r }
+{
+    match r {
+        Ok(n) => u32::from(n),
+        Err(n) => u32::from(refusal_number(n)),
+    }
+}
 
-const IMPOSSIBLE: u32 = numbers::IMPOSSIBLE as u32;
+// The same of a call that asks nothing of its ticks.
+fn done(r: Result<(), CallRefusal>) -> u32
+    ensures { result ≡ done_number r }
+{
+    match r {
+        Ok(()) => 0,
+        Err(n) => u32::from(refusal_number(n)),
+    }
+}
 
 // A wrong length comes first; a: of the settings, b: of the state.
-fn images_refusal(a: u8, b: u8) -> u8
-    ensures { result ≡ images_refusal a b }
+#[tactic(auto, unfolding(crate::specs::Board::images_refusal))]
+fn images_refusal(
+    a: Result<(), ImageRefusal>,
+    b: Result<(), ImageRefusal>,
+) -> Result<(), ImageRefusal>
+    ensures { bytes_number result ≡ images_refusal (bytes_number a) (bytes_number b) }
 {
-    if a == WRONG_LENGTH {
-        return WRONG_LENGTH;
-    }
-    if b == WRONG_LENGTH {
-        return WRONG_LENGTH;
-    }
-    if a == 0 {
+    if matches!(b, Err(ImageRefusal::WrongLength)) {
         return b;
     }
-    a
+    a.and(b)
 }
 
-// What both images are refused with for their lengths and bytes, or 0.
-fn judged(settings: &[u8], state: &[u8]) -> u8
-    ensures { result ≡ images_refusal (given_in settings.now).refusal (bytes_refusal state.now) }
+// What both images are refused with for their lengths and bytes; `bytes` is what the state's is.
+fn first_refusal(settings: &[u8], bytes: Result<(), ImageRefusal>) -> Result<(), CallRefusal>
+    ensures { done_number result ≡ images_refusal (given_in settings.now).refusal (bytes_number bytes) }
 {
-    images_refusal(given_refusal(settings), bytes_refusal(state))
+    images_refusal(given_refusal(settings), bytes).map_err(CallRefusal::Image)
 }
 
-fn opened(settings: &[u8]) -> Option<Settings>
-    ensures { length settings.now ≡ given_length → result ≡ open_of (given_by settings.now) }
+fn opened(settings: &[u8]) -> Result<Settings, CallRefusal>
+    ensures number { length settings.now ≡ given_length → opened_number result ≡ opening_number (open_of (given_by settings.now)) }
+    ensures settings { length settings.now ≡ given_length → IfOk result (λ s. s ≡ settings_by settings.now) }
 {
-    open(given_at(settings))
+    opening::open(given_at(settings)).ok_or(CallRefusal::Settings)
 }
 
-fn length_refusal(n: usize) -> u8
-    ensures { result ≡ length_refusal n }
+// The settings of a call, where both its images are ones; the state's buffer is refused for its bytes with `bytes`.
+fn judged(
+    settings: &[u8],
+    bytes: Result<(), ImageRefusal>,
+    image: &[u8],
+) -> Result<Settings, CallRefusal>
+    requires { bytes_number bytes ≡ 0 → is_image (length image.now) ≡ true }
+    ensures number { opened_number result ≡ judged_number settings.now (bytes_number bytes) image.now }
+    ensures settings { IfOk result (λ s. s ≡ settings_by settings.now) }
+    ensures bytes { Bytes image.now }
+{
+    first_refusal(settings, bytes)?;
+    if !is_possible(settings, image) {
+        return Err(CallRefusal::Image(ImageRefusal::Impossible));
+    }
+    opened(settings)
+}
+
+#[tactic(auto, unfolding(crate::specs::Board::length_refusal))]
+fn length_refusal(n: usize) -> Result<(), ImageRefusal>
+    ensures { bytes_number result ≡ length_refusal n }
 {
     if n == STATE_LENGTH {
-        return 0;
+        return Ok(());
     }
-    WRONG_LENGTH
+    Err(ImageRefusal::WrongLength)
+}
+
+fn open(settings: &[u8], state: &mut [u8]) -> Result<(), CallRefusal>
+    ensures told { done_number result ≡ open_answer settings.now (length state.old) }
+    ensures image { state.new ≡ open_image settings.now state.old }
+{
+    first_refusal(settings, length_refusal(state.len()))?;
+    opened(settings)?;
+    // every byte of the opening state's image is 0
+    places::clear(state);
+    Ok(())
 }
 
 // The opening: fills the state image. What its bytes were is not asked.
@@ -99,19 +167,7 @@ pub fn pressgully_open(settings: &[u8], state: &mut [u8]) -> u32
     ensures told { result ≡ open_answer settings.now (length state.old) }
     ensures image { state.new ≡ open_image settings.now state.old }
 {
-    let n = state.len();
-    let why = images_refusal(given_refusal(settings), length_refusal(n));
-    if why != 0 {
-        return why as u32;
-    }
-    match opened(settings) {
-        None => return SETTINGS_REFUSED,
-        Some(_) => {
-            // every byte of the opening state's image is 0
-            places::clear(state);
-            return 0;
-        }
-    }
+    done(open(settings, state))
 }
 
 // The parts of an earlier image into a state's buffer, in two: what is weighed, and what is batched. What waits is in neither.
@@ -136,65 +192,60 @@ fn put_batched(earlier: &[u8], state: &mut [u8])
     put_totals(state, totals_at(earlier));
 }
 
+fn grow(settings: &[u8], earlier: &[u8], state: &mut [u8]) -> Result<(), CallRefusal>
+    ensures told { done_number result ≡ grow_answer settings.now earlier.now (length state.old) }
+    ensures image { state.new ≡ grow_image settings.now earlier.now state.old }
+{
+    let bytes = images_refusal(length_refusal(state.len()), earlier_refusal(earlier));
+    judged(settings, bytes, earlier)?;
+    // in the opening state, all bytes 0, nothing waits
+    places::clear(state);
+    put_weighed(earlier, state);
+    put_batched(earlier, state);
+    Ok(())
+}
+
 // Makes the present image of an earlier one. What the bytes of the state's buffer were is not asked.
 pub fn pressgully_grow(settings: &[u8], earlier: &[u8], state: &mut [u8]) -> u32
     ensures told { result ≡ grow_answer settings.now earlier.now (length state.old) }
     ensures image { state.new ≡ grow_image settings.now earlier.now state.old }
 {
-    let n = state.len();
-    let bytes = images_refusal(length_refusal(n), earlier_refusal(earlier));
-    let why = images_refusal(given_refusal(settings), bytes);
-    if why != 0 {
-        return why as u32;
-    }
-    if !is_possible(settings, earlier) {
-        return IMPOSSIBLE;
-    }
-    match opened(settings) {
-        None => return SETTINGS_REFUSED,
-        Some(_) => {
-            // in the opening state, all bytes 0, nothing waits
-            places::clear(state);
-            put_weighed(earlier, state);
-            put_batched(earlier, state);
-            return 0;
-        }
-    }
+    done(grow(settings, earlier, state))
 }
 
 // The number of a tick's answer; 13 where it was asked by a number that is no request.
-fn told_by(known: bool, outcome: Result<(), Refusal>) -> u8
-    ensures { result ≡ cond known (outcome_number outcome) 13 }
+fn asked_number(asked: Result<Option<Request>, NoRequest>, outcome: Result<(), Refusal>) -> u8
+    ensures { result ≡ cond (is_known asked) (outcome_number outcome) 13 }
 {
-    if known {
-        return outcome_number(outcome);
+    match asked {
+        Ok(_) => outcome_number(outcome),
+        Err(NoRequest) => NO_REQUEST,
     }
-    NO_REQUEST
 }
 
-// The tick of a buffer that holds a state, in the outline's order; known: its request has a number.
+// The tick of a buffer that holds a state, in the outline's order.
 fn run_tick(
     s: Settings,
     count: i32,
     contact: bool,
-    request: Option<Request>,
-    known: bool,
+    asked: Result<Option<Request>, NoRequest>,
     state: &mut [u8],
     answer: &mut [u8],
-) -> u32
+) -> Result<u8, CallRefusal>
     ensures told { Tells state.old (λ (st : State).
-        let a = tick_of s st (input_of count contact request) in
-        result ≡ room_answer (told_of known a) answer.old) }
+        let a = tick_of s st (input_of count contact (request_in asked)) in
+        told_by result ≡ room_answer (told_of (is_known asked) a) answer.old) }
     ensures image { Tells state.old (λ (st : State).
-        let a = tick_of s st (input_of count contact request) in
+        let a = tick_of s st (input_of count contact (request_in asked)) in
         state.new ≡ room_image a.state state.old answer.old) }
     ensures outputs { Tells state.old (λ (st : State).
-        let a = tick_of s st (input_of count contact request) in
-        answer.new ≡ room_buffer (told_of known a) 0 a.answer answer.old) }
+        let a = tick_of s st (input_of count contact (request_in asked)) in
+        answer.new ≡ room_buffer (told_of (is_known asked) a) 0 a.answer answer.old) }
 {
     if answer.len() < ANSWER_LENGTH {
-        return SHORT;
+        return Err(CallRefusal::ShortBuffer);
     }
+    let request = asked.unwrap_or(None);
     // 1. to 3. Raw, day book, weights.
     let mut x = steps::enter(s, count, contact, state);
     // 4. The tick's request, and the weights again, with the zero and the tare that it leaves.
@@ -207,9 +258,28 @@ fn run_tick(
     steps::track(s, steps::is_keyed(done), x, state);
     // 6. Sequence, passed over after an accepted start or discharge, or a stop.
     steps::step(s, steps::is_held(done), x, state);
-    let told = told_by(known, outcome);
-    steps::answer(s, outcome, told, 0, x, state, answer);
-    told as u32
+    let n = asked_number(asked, outcome);
+    steps::answer(s, outcome, n, 0, x, state, answer);
+    Ok(n)
+}
+
+fn tick(
+    settings: &[u8],
+    state: &mut [u8],
+    count: i32,
+    contact: bool,
+    request: u32,
+    points: &[u32],
+    answer: &mut [u8],
+) -> Result<u8, CallRefusal>
+    ensures told { told_by result ≡ tick_answer settings.now state.old count contact request points.now answer.old }
+    ensures image { state.new
+        ≡ tick_image settings.now state.old count contact request points.now answer.old }
+    ensures outputs { answer.new
+        ≡ tick_buffer settings.now state.old count contact request points.now answer.old }
+{
+    let s = judged(settings, bytes_refusal(state), state)?;
+    run_tick(s, count, contact, asked(request, points), state, answer)
 }
 
 // One tick, asked by a number.
@@ -228,21 +298,7 @@ pub fn pressgully_tick(
     ensures outputs { answer.new
         ≡ tick_buffer settings.now state.old count contact request points.now answer.old }
 {
-    let why = judged(settings, state);
-    if why != 0 {
-        return why as u32;
-    }
-    if !is_possible(settings, state) {
-        return IMPOSSIBLE;
-    }
-    match opened(settings) {
-        None => return SETTINGS_REFUSED,
-        Some(s) => {
-            let known = is_request(request, points);
-            let asked = request_by(request, points);
-            return run_tick(s, count, contact, asked, known, state, answer);
-        }
-    }
+    told(tick(settings, state, count, contact, request, points, answer))
 }
 
 // The tick with a line, in the same order. The reply is written after the ruling, before anything is done: a read changes nothing in step
@@ -255,10 +311,10 @@ fn run_line(
     reply: &mut [u8],
     state: &mut [u8],
     answer: &mut [u8],
-) -> u32
+) -> Result<u8, CallRefusal>
     ensures told { Tells state.old (λ (st : State).
         let a = line_tick_of s st count contact receive.now reply.old in
-        result ≡ room_answer (told_number a.told) answer.old) }
+        told_by result ≡ room_answer (told_number a.told) answer.old) }
     ensures image { Tells state.old (λ (st : State).
         let a = line_tick_of s st count contact receive.now reply.old in
         state.new ≡ room_image a.state state.old answer.old) }
@@ -270,7 +326,7 @@ fn run_line(
         answer.new ≡ room_buffer (told_number a.told) a.length a.answer answer.old) }
 {
     if answer.len() < ANSWER_LENGTH {
-        return SHORT;
+        return Err(CallRefusal::ShortBuffer);
     }
     let command = command_of(receive, s.address);
     let request = request_of(command);
@@ -290,17 +346,42 @@ fn run_line(
             steps::step(s, steps::is_held(done), x, state);
             let n = told_number(told_of(command, outcome));
             steps::answer(s, outcome, n, length, x, state, answer);
-            return n as u32;
+            Ok(n)
         }
         Err(ShortBuffer) => {
             // The reply does not fit: a tick without a request.
-            put_none(answer);
+            put_closed(answer, None);
             steps::track(s, false, x, state);
             steps::step(s, false, x, state);
             steps::answer(s, Ok(()), SHORT_BUFFER, 0, x, state, answer);
-            return SHORT;
+            Ok(SHORT_BUFFER)
         }
     }
+}
+
+fn line(
+    settings: &[u8],
+    state: &mut [u8],
+    count: i32,
+    contact: bool,
+    receive: &[u8],
+    reply: &mut [u8],
+    answer: &mut [u8],
+) -> Result<u8, CallRefusal>
+    ensures told { told_by result ≡ line_answer settings.now state.old count contact receive.now reply.old
+        answer.old }
+    ensures image { state.new
+        ≡ line_image settings.now state.old count contact receive.now reply.old
+        answer.old }
+    ensures replied { reply.new
+        ≡ line_reply settings.now state.old count contact receive.now reply.old
+        answer.old }
+    ensures outputs { answer.new
+        ≡ line_buffer settings.now state.old count contact receive.now reply.old
+        answer.old }
+{
+    let s = judged(settings, bytes_refusal(state), state)?;
+    run_line(s, count, contact, receive, reply, state, answer)
 }
 
 // One tick with a receive buffer, whose line it obeys. The reply's length stands in the answer.
@@ -325,40 +406,43 @@ pub fn pressgully_line(
         ≡ line_buffer settings.now state.old count contact receive.now reply.old
         answer.old }
 {
-    let why = judged(settings, state);
-    if why != 0 {
-        return why as u32;
-    }
-    if !is_possible(settings, state) {
-        return IMPOSSIBLE;
-    }
-    match opened(settings) {
-        None => return SETTINGS_REFUSED,
-        Some(s) => {
-            return run_line(s, count, contact, receive, reply, state, answer);
-        }
-    }
+    told(line(settings, state, count, contact, receive, reply, answer))
 }
 
 // The counts of a block, one tick after the other, in the buffer of the state.
-fn run_block(s: Settings, counts: &[i32], contact: bool, state: &mut [u8]) -> u32
+fn run_block(
+    s: Settings,
+    counts: &[i32],
+    contact: bool,
+    state: &mut [u8],
+) -> Result<(), CallRefusal>
     ensures told { Tells state.old (λ (st : State).
-        result ≡ block_number (block_of s st counts.now contact).answer) }
+        done_number result ≡ block_number (block_of s st counts.now contact).answer) }
     ensures image { Tells state.old (λ (st : State).
         state.new ≡ image_of (block_of s st counts.now contact).state) }
 {
     if BLOCK_LIMIT < counts.len() {
-        return LONG_BLOCK;
+        return Err(CallRefusal::LongBlock);
     }
-    let mut i = 0;
-    while i < counts.len() {
-        let count = counts[i];
+    for &count in counts {
         let x = steps::enter(s, count, contact, state);
         steps::track(s, false, x, state);
         steps::step(s, false, x, state);
-        i += 1;
     }
-    0
+    Ok(())
+}
+
+fn block(
+    settings: &[u8],
+    state: &mut [u8],
+    counts: &[i32],
+    contact: bool,
+) -> Result<(), CallRefusal>
+    ensures told { done_number result ≡ block_answer settings.now state.old counts.now contact }
+    ensures image { state.new ≡ block_image settings.now state.old counts.now contact }
+{
+    let s = judged(settings, bytes_refusal(state), state)?;
+    run_block(s, counts, contact, state)
 }
 
 // A block of counts, one tick each, with one contact and no requests.
@@ -366,17 +450,7 @@ pub fn pressgully_block(settings: &[u8], state: &mut [u8], counts: &[i32], conta
     ensures told { result ≡ block_answer settings.now state.old counts.now contact }
     ensures image { state.new ≡ block_image settings.now state.old counts.now contact }
 {
-    let why = judged(settings, state);
-    if why != 0 {
-        return why as u32;
-    }
-    if !is_possible(settings, state) {
-        return IMPOSSIBLE;
-    }
-    match opened(settings) {
-        None => return SETTINGS_REFUSED,
-        Some(s) => return run_block(s, counts, contact, state),
-    }
+    done(block(settings, state, counts, contact))
 }
 
 // Demand 3 for images. It does nothing: it stands here so that the check's list names the statements, and misses them if a proof goes.

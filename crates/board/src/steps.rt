@@ -2,7 +2,7 @@
 // writes those that it makes, so that there is a state nowhere else: a tick takes little of a board's stack. Each step but
 // the reply is called by two C calls or more, so that the compiler draws none into its caller: each gives its frame back before the next
 // begins (docs/COST.md). What each promises is of the state that the buffer holds.
-ghost use Rattle.std.specs.Prelude.{◌≡◌, true, false, None, Some};
+ghost use Rattle.std.specs.Prelude.{◌≡◌, true, false, None, Some, Result, ℕ};
 ghost use Rattle.types.specs.declared.machine.State.{State};
 ghost use Rattle.outline.specs.Weight.{raw_of};
 ghost use Rattle.outline.specs.DayBook.{closed_of};
@@ -18,17 +18,16 @@ ghost use Rattle.replies.specs.Wrote.{wrote_of};
 ghost use Rattle.images.specs.Holds.{Holds, Turns, Tells};
 ghost use Rattle.board.specs.InPlace.{raw_in, held_by, keyed_by, beside_batch, batch_done, closed_put, outputs_put};
 
-use crate::answer::{put_day, put_none, put_outputs};
+use crate::answer::{put_closed, put_outputs};
 use images::parts::{
     book_at, clear_waiting, panel_at, put_book, put_panel, put_sequence, put_setpoints,
     put_stability, put_totals, put_waiting, put_weighing, sequence_at, setpoints_at, stability_at,
     totals_at, waiting_at, weighing_at,
 };
-use replies::Wrote;
-use setpoints::waiting::none_waiting;
+use replies::ShortBuffer;
 use types::lines::{LineFault, Order};
 use types::machine::State;
-use types::requests::Request;
+use types::requests::{Refusal, Request};
 use types::settings::Settings;
 use types::stages::{Sequence, Setpoints};
 use types::weight::{Display, Panel, Stability, Weighing, Weights};
@@ -50,34 +49,32 @@ pub(crate) fn enter(s: Settings, count: i32, contact: bool, state: &mut [u8]) ->
     weight::weigh(s, steadied, weighing, raw, contact)
 }
 
-// The raw that was weighed.
-fn raw_again(x: Weights) -> Option<i32>
-    ensures { result ≡ raw_in x }
-{
-    if x.good {
-        return Some(x.raw);
-    }
-    None
-}
-
 // After 4., the weights x again, with the zero and the tare that stand in the buffer now.
 pub(crate) fn again(s: Settings, x: Weights, state: &[u8]) -> Weights
     ensures { Tells state.now (λ (st : State). result ≡ weights_of s st (raw_in x) x.contact) }
 {
-    let stability = stability_at(state);
-    let weighing = weighing_at(state);
-    weight::weigh(s, stability, weighing, raw_again(x), x.contact)
+    // The raw that was weighed, or none.
+    let raw = x.good.then_some(x.raw);
+    weight::weigh(s, stability_at(state), weighing_at(state), raw, x.contact)
 }
 
 // 4. The ruling: accepted, or refused with its number.
-pub(crate) fn ruled(s: Settings, x: Weights, request: Option<Request>, state: &[u8]) -> Result<(), Refusal>
+pub(crate) fn ruled(
+    s: Settings,
+    x: Weights,
+    request: Option<Request>,
+    state: &[u8],
+) -> Result<(), Refusal>
     ensures { Tells state.now (λ (st : State). result ≡ ruling_of s st x request) }
 {
-    let batching = s.batching;
-    let mode = batching.mode;
-    let sequence = sequence_at(state);
-    let totals = totals_at(state);
-    requests::ruling(s.range, mode, sequence, totals, x, request)
+    requests::ruling(
+        s.range,
+        s.batching.mode,
+        sequence_at(state),
+        totals_at(state),
+        x,
+        request,
+    )
 }
 
 // The day goes into the answer as it was; the next one begins.
@@ -87,15 +84,14 @@ fn close(state: &mut [u8], answer: &mut [u8])
         answer.new ≡ closed_put (Some st.book) answer.old) }
 {
     let day = book_at(state);
-    put_day(answer, day);
+    put_closed(answer, Some(day));
     put_book(state, daybook::closed_book(day));
 }
 
 fn show(display: Display, state: &mut [u8])
     ensures { Turns state.old state.new (λ (st : State). with_display st display) }
 {
-    let panel = Panel { display };
-    put_panel(state, panel);
+    put_panel(state, Panel { display });
 }
 
 // The reply that is due to a line, into its buffer. A read changes nothing in step 4, so that what stands before it is what step 4 leaves.
@@ -108,16 +104,12 @@ pub(crate) fn reply(
     x: Weights,
     state: &[u8],
     reply: &mut [u8],
-) -> Wrote
+) -> Result<usize, ShortBuffer>
     ensures wrote { Tells state.now (λ (st : State).
         result ≡ wrote_of (reply_text s.address (reply_due command st (reading_of x) outcome)) reply.old) }
     ensures bytes { Tells state.now (λ (st : State).
         reply.new ≡ written_of (reply_text s.address (reply_due command st (reading_of x) outcome)) reply.old) }
 {
-    let panel = panel_at(state);
-    let setpoints = setpoints_at(state);
-    let waiting = waiting_at(state);
-    let totals = totals_at(state);
     let shown = State {
         book: daybook::open_book(),
         stability: Stability {
@@ -130,14 +122,13 @@ pub(crate) fn reply(
             tare: 0,
             counter: 0,
         },
-        panel,
-        setpoints,
-        waiting,
+        panel: panel_at(state),
+        setpoints: setpoints_at(state),
+        waiting: waiting_at(state),
         sequence: batch::sequence::open_sequence(),
-        totals,
+        totals: totals_at(state),
     };
-    let reading = controller::outputs::reading(x);
-    let due = replies::due::reply_due(command, shown, reading, outcome);
+    let due = replies::due::reply_due(command, shown, controller::outputs::reading(x), outcome);
     replies::write_reply(reply, s.address, due)
 }
 
@@ -145,30 +136,23 @@ pub(crate) fn reply(
 fn key_zero(raw: i32, state: &mut [u8])
     ensures { Turns state.old state.new (λ (st : State). with_weighing st (zeroed_of st.weighing raw)) }
 {
-    let weighing = weighing_at(state);
-    put_weighing(state, zero::zeroed(weighing, raw));
+    put_weighing(state, zero::zeroed(weighing_at(state), raw));
 }
 
 // A tare takes the gross, a tare clear takes 0.
 fn put_tare(tare: i32, state: &mut [u8])
     ensures { Turns state.old state.new (λ (st : State). with_weighing st (tared_of st.weighing tare)) }
 {
-    let weighing = weighing_at(state);
-    put_weighing(state, zero::tared(weighing, tare));
+    put_weighing(state, zero::tared(weighing_at(state), tare));
 }
 
 // The stage has returned to 00: what waits is in use, and nothing waits any more.
 fn bring_in(state: &mut [u8])
     ensures { Turns state.old state.new (λ (st : State). comes_in true st) }
 {
-    let waiting = waiting_at(state);
-    let write = waiting.write;
-    match write {
-        None => return,
-        Some(p) => {
-            put_setpoints(state, p);
-            return clear_waiting(state);
-        }
+    if let Some(p) = waiting_at(state) {
+        put_setpoints(state, p);
+        clear_waiting(state);
     }
 }
 
@@ -177,8 +161,7 @@ fn stop(state: &mut [u8])
     ensures { Turns state.old state.new (λ (st : State). stopped_of st) }
 {
     let sequence = sequence_at(state);
-    let stage = sequence.stage;
-    if batch::sequence::is_idle(stage) {
+    if batch::sequence::is_idle(sequence.stage) {
         return;
     }
     put_sequence(state, batch::sequence::stop_sequence(sequence));
@@ -189,51 +172,48 @@ fn stop(state: &mut [u8])
 fn store(p: Setpoints, state: &mut [u8])
     ensures { Turns state.old state.new (λ (st : State). stored_of st p) }
 {
-    let sequence = sequence_at(state);
-    let stage = sequence.stage;
-    if batch::sequence::is_idle(stage) {
-        return put_setpoints(state, p);
+    if batch::sequence::is_idle(sequence_at(state).stage) {
+        put_setpoints(state, p);
+    } else {
+        put_waiting(state, p);
     }
-    put_waiting(state, p);
 }
 
 fn discharge(state: &mut [u8])
     ensures { Turns state.old state.new (λ (st : State). with_sequence st (discharge_sequence st.sequence)) }
 {
-    let sequence = sequence_at(state);
-    put_sequence(state, batch::sequence::discharge_sequence(sequence));
+    put_sequence(
+        state,
+        batch::sequence::discharge_sequence(sequence_at(state)),
+    );
 }
 
 // The batch that was booked last goes out of the totals again.
 fn take_back(state: &mut [u8])
     ensures { Turns state.old state.new (λ (st : State). with_totals st (taken_back st.totals)) }
 {
-    let totals = totals_at(state);
-    put_totals(state, totals::take_back(totals));
+    put_totals(state, totals::take_back(totals_at(state)));
 }
 
 // 4. What is done of the request, d, but for those that `settle_batch` has: it changes at most one part of the state. A day that it closes
 // goes into the answer. What reads a part before it writes it is a function of its own above, so that here each request is one line.
+#[tactic(auto, using(crate::proofs::InTwo::over_none), unfolding(outline::specs::Requests::granted_of))]
 pub(crate) fn settle(d: Option<Request>, x: Weights, state: &mut [u8], answer: &mut [u8])
     ensures state { Turns state.old state.new (λ (st : State). (granted_of st x (beside_batch d)).state) }
     ensures day { Tells state.old (λ (st : State).
         answer.new ≡ closed_put (granted_of st x (beside_batch d)).closed answer.old) }
 {
-    put_none(answer);
+    put_closed(answer, None);
     match d {
-        None => return,
-        Some(Request::Zero) => return key_zero(x.raw, state),
-        Some(Request::Tare) => return put_tare(x.gross, state),
-        Some(Request::TareClear) => return put_tare(0, state),
-        Some(Request::Start) => return,
-        Some(Request::Stop) => return,
-        Some(Request::Set(_)) => return,
-        Some(Request::TotalClear) => return put_totals(state, totals::clear_totals()),
-        Some(Request::Undo) => return take_back(state),
-        Some(Request::ShowGross) => return show(Display::Gross, state),
-        Some(Request::ShowNet) => return show(Display::Net, state),
-        Some(Request::DayClose) => return close(state, answer),
-        Some(Request::Discharge) => return,
+        Some(Request::Zero) => key_zero(x.raw, state),
+        Some(Request::Tare) => put_tare(x.gross, state),
+        Some(Request::TareClear) => put_tare(0, state),
+        Some(Request::TotalClear) => put_totals(state, totals::clear_totals()),
+        Some(Request::Undo) => take_back(state),
+        Some(Request::ShowGross) => show(Display::Gross, state),
+        Some(Request::ShowNet) => show(Display::Net, state),
+        Some(Request::DayClose) => close(state, answer),
+        _ => {}
     }
 }
 
@@ -243,11 +223,11 @@ pub(crate) fn settle_batch(d: Option<Request>, state: &mut [u8])
     ensures { Turns state.old state.new (λ (st : State). batch_done st d) }
 {
     match d {
-        Some(Request::Start) => return put_sequence(state, batch::sequence::start_sequence()),
-        Some(Request::Stop) => return stop(state),
-        Some(Request::Set(p)) => return store(p, state),
-        Some(Request::Discharge) => return discharge(state),
-        _ => return,
+        Some(Request::Start) => put_sequence(state, batch::sequence::start_sequence()),
+        Some(Request::Stop) => stop(state),
+        Some(Request::Set(p)) => store(p, state),
+        Some(Request::Discharge) => discharge(state),
+        _ => {}
     }
 }
 
@@ -255,22 +235,14 @@ pub(crate) fn settle_batch(d: Option<Request>, state: &mut [u8])
 pub(crate) fn is_held(d: Option<Request>) -> bool
     ensures { result ≡ held_by d }
 {
-    match d {
-        Some(Request::Start) => true,
-        Some(Request::Stop) => true,
-        Some(Request::Discharge) => true,
-        _ => false,
-    }
+    matches!(d, Some(Request::Start | Request::Stop | Request::Discharge))
 }
 
 // Tracking begins anew where a zero was keyed.
 pub(crate) fn is_keyed(d: Option<Request>) -> bool
     ensures { result ≡ keyed_by d }
 {
-    match d {
-        Some(Request::Zero) => true,
-        _ => false,
-    }
+    matches!(d, Some(Request::Zero))
 }
 
 // 5. Tracking. The stage is that which step 4 leaves.
@@ -278,9 +250,7 @@ pub(crate) fn track(s: Settings, keyed: bool, x: Weights, state: &mut [u8])
     ensures { Turns state.old state.new (λ (st : State).
         with_weighing st (tracked_of s (idle_now st) keyed x st.weighing)) }
 {
-    let sequence = sequence_at(state);
-    let stage = sequence.stage;
-    let idle = batch::sequence::is_idle(stage);
+    let idle = batch::sequence::is_idle(sequence_at(state).stage);
     let weighing = weighing_at(state);
     put_weighing(state, zero::tracking::tracked(s, idle, keyed, x, weighing));
 }
@@ -300,23 +270,19 @@ fn go_on(s: Settings, sequence: Sequence, x: Weights, state: &mut [u8])
     ensures { Tells state.old (λ (st : State).
         sequence ≡ st.sequence → idle_of st.sequence.stage ≡ false → Holds state.new (stepped_of s st x)) }
 {
-    let batching = s.batching;
-    let mode = batching.mode;
-    let v = batch::comparison::compared(mode, x);
-    let fit = weight::is_fit(x);
+    let v = batch::comparison::compared(s.batching.mode, x);
+    let unfit = !weight::is_fit(x);
     let setpoints = setpoints_at(state);
-    let a = batch::advance(s.batching, setpoints, sequence, !fit, v, x.stable, x.gross);
-    let after = a.sequence;
-    let next = after.stage;
-    if !batch::sequence::is_idle(next) {
-        return put_sequence(state, after);
+    let after = batch::advance(s.batching, setpoints, sequence, unfit, v, x.stable, x.gross);
+    if !batch::sequence::is_idle(after.sequence.stage) {
+        return put_sequence(state, after.sequence);
     }
     // The stage returns to 00: after judgement and booking what waits is in use.
-    if a.finished {
-        book_batch(v, after, state);
-        return bring_in(state);
+    if after.finished {
+        book_batch(v, after.sequence, state);
+    } else {
+        put_sequence(state, after.sequence);
     }
-    put_sequence(state, after);
     bring_in(state);
 }
 
@@ -328,8 +294,7 @@ pub(crate) fn step(s: Settings, held: bool, x: Weights, state: &mut [u8])
         return;
     }
     let sequence = sequence_at(state);
-    let stage = sequence.stage;
-    if batch::sequence::is_idle(stage) {
+    if batch::sequence::is_idle(sequence.stage) {
         return;
     }
     go_on(s, sequence, x, state);
@@ -349,9 +314,6 @@ pub(crate) fn answer(
     ensures { Tells state.now (λ (st : State).
         answer.new ≡ outputs_put told length (outputs_of s (answered_of outcome None st) x st) answer.old) }
 {
-    let panel = panel_at(state);
-    let setpoints = setpoints_at(state);
-    let sequence = sequence_at(state);
     let shown = State {
         book: daybook::open_book(),
         stability: Stability {
@@ -364,10 +326,10 @@ pub(crate) fn answer(
             tare: 0,
             counter: 0,
         },
-        panel,
-        setpoints,
-        waiting: none_waiting(),
-        sequence,
+        panel: panel_at(state),
+        setpoints: setpoints_at(state),
+        waiting: None,
+        sequence: sequence_at(state),
         totals: totals::clear_totals(),
     };
     let a = controller::outputs::outputs(s, outcome, None, x, shown);

@@ -1,0 +1,36 @@
+-- Refused, or the counts are run in the buffer of the state.
+use Rattle.std.proofs.Common.{rules, ◌≡◌, refl, sym, ap, ◌∙◌, ℕ, Err}
+use Rattle.images.specs.StateImage.{image_of}
+use Rattle.board.specs.declared.CallRefusal.{CallRefusal}
+use Rattle.outline.specs.Numbers.{block_number}
+use Rattle.board.specs.Board.{block_by}
+use Rattle.board.specs.Called.{refusal_number, judged_number}
+use Rattle.board.proofs.Cases.{same_block, block-kept, block-done}
+use Rattle.board.proofs.Refused.{refused, judged_state, bytes_image, buffer_held}
+use Rattle.board.proofs.block.Goals as goal
+
+pub judged-requires : goal.judged-requires
+judged-requires c e = bytes_image c.args.state.now (sym c.bytes_refusal.ensures ∙ e)
+
+pub returns-in_err-s : goal.returns-in_err-s
+returns-in_err-s c =
+    let a = c.args in
+    let n : CallRefusal = c.in_err-s.field-0.0 in
+    let e = c.in_err-s.ensures.number ∙ ap (λ (b : ℕ). judged_number a.settings.now b a.state.now) c.bytes_refusal.ensures ∙ judged_state a.settings.now a.state.now in
+    let r = block-kept a.settings.now a.state.now a.counts.now a.contact (refusal_number n) (sym e) (refused n) in
+    let k : c.from_residual.result ≡ Err n = search rules in
+    record { told = rw k r.0; image = r.1 }
+
+pub returns : goal.returns
+unfolding block_by
+returns c =
+    let a = c.args in
+    let u = sym (c.in_ok-s.ensures.number ∙ ap (λ (b : ℕ). judged_number a.settings.now b a.state.now) c.bytes_refusal.ensures ∙ judged_state a.settings.now a.state.now) in
+    let h = buffer_held a.settings.now a.state.now c.judged.ensures.bytes u in
+    let r = block-done a.settings.now a.state.now a.counts.now a.contact u in
+    let k = c.run_block.ensures in
+    let same = same_block a.counts.now a.contact c.in_ok-s.ensures.settings refl in
+    record {
+      told = k.told _ h ∙ (λ i. block_number (same i).answer) ∙ r.0;
+      image = k.image _ h ∙ (λ i. image_of (same i).state) ∙ r.1;
+    }
