@@ -6,7 +6,9 @@ use types::machine::State;
 use types::settings::Settings;
 use types::weight::Weights;
 
-// In stage 00 there is nothing to do. Where the stage returns to 00, what waits is in use after judgement and booking.
+// In stage 00 there is nothing to do. Where the stage returns to 00, what waits is in use after judgement and booking. Drawn into each tick:
+// a call of its own would take more stack than the tick has (bench/stack).
+#[inline(always)]
 pub(crate) fn step(s: Settings, st: &mut State, x: Weights)
     ensures { st.new ≡ stepped_of s st.old x }
 {

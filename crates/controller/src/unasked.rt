@@ -8,7 +8,8 @@ use crate::step::step;
 use types::machine::{State, Ticked};
 use types::settings::Settings;
 
-// Step 4 leaves the state as it is, and step 3's weights serve to the end.
+// Step 4 leaves the state as it is, and step 3's weights serve to the end. Its frame is its own, in whatever loop it is called.
+#[inline(never)]
 pub fn unasked_tick(s: Settings, mut st: State, count: i32, contact: bool) -> Ticked
     ensures ticked { result ≡ tick_of s st (unasked_of count contact) }
     ensures number { outcome_number result.answer.outcome ≡ 0 }
