@@ -9,22 +9,24 @@ use types::stages::Setpoints;
 #[derive(Clone, Copy)]
 pub(crate) struct NoRequest;
 
-// F, FF, P, OP, over, under, near zero.
+// The numbers of a write: F, FF, P, OP, over, under, near zero.
+const POINT_COUNT: usize = 7;
+
 #[tactic(auto, unfolding(crate::specs::AskedBy::points_of))]
 fn points_of(points: &[u32]) -> Result<Setpoints, NoRequest>
     ensures { result ≡ cond (eqb (length points.now) point_count) (Ok (points_of points.now)) (Err (record {})) }
 {
-    let [target, fall, preliminary, optional, over, under, near] = *points else {
+    if points.len() != POINT_COUNT {
         return Err(NoRequest);
-    };
+    }
     Ok(Setpoints {
-        target,
-        fall,
-        preliminary,
-        optional,
-        over,
-        under,
-        near,
+        target: points[0],
+        fall: points[1],
+        preliminary: points[2],
+        optional: points[3],
+        over: points[4],
+        under: points[5],
+        near: points[6],
     })
 }
 

@@ -45,45 +45,47 @@ pub fn tick(s: Settings, mut st: State, i: Input) -> Ticked
     let mut held = false;
     let mut keyed = false;
     let mut closed = None;
-    if let Some(request) = requests::granted(outcome, i.request) {
-        match request {
-            Request::Zero => {
-                st.weighing = zero::zeroed(st.weighing, x.raw);
-                keyed = true;
-            }
-            Request::Tare => st.weighing = zero::tared(st.weighing, x.gross),
-            Request::TareClear => st.weighing = zero::tared(st.weighing, 0),
-            Request::Start => {
-                st.sequence = batch::sequence::start_sequence();
-                held = true;
-            }
-            Request::Stop => {
-                if !batch::sequence::is_idle(st.sequence.stage) {
-                    st.sequence = batch::sequence::stop_sequence(st.sequence);
-                    st.setpoints = setpoints::waiting::latest(st.setpoints, st.waiting);
-                    st.waiting = None;
+    if let Ok(()) = outcome {
+        if let Some(request) = i.request {
+            match request {
+                Request::Zero => {
+                    st.weighing = zero::zeroed(st.weighing, x.raw);
+                    keyed = true;
                 }
-                held = true;
-            }
-            // Outside 00 a write waits.
-            Request::Set(p) => {
-                if batch::sequence::is_idle(st.sequence.stage) {
-                    st.setpoints = p;
-                } else {
-                    st.waiting = Some(p);
+                Request::Tare => st.weighing = zero::tared(st.weighing, x.gross),
+                Request::TareClear => st.weighing = zero::tared(st.weighing, 0),
+                Request::Start => {
+                    st.sequence = batch::sequence::start_sequence();
+                    held = true;
                 }
-            }
-            Request::TotalClear => st.totals = totals::clear_totals(),
-            Request::Undo => st.totals = totals::take_back(st.totals),
-            Request::ShowGross => st.panel.display = Display::Gross,
-            Request::ShowNet => st.panel.display = Display::Net,
-            Request::DayClose => {
-                closed = Some(st.book);
-                st.book = daybook::closed_book(st.book);
-            }
-            Request::Discharge => {
-                st.sequence = batch::sequence::discharge_sequence(st.sequence);
-                held = true;
+                Request::Stop => {
+                    if !batch::sequence::is_idle(st.sequence.stage) {
+                        st.sequence = batch::sequence::stop_sequence(st.sequence);
+                        st.setpoints = setpoints::waiting::latest(st.setpoints, st.waiting);
+                        st.waiting = None;
+                    }
+                    held = true;
+                }
+                // Outside 00 a write waits.
+                Request::Set(p) => {
+                    if batch::sequence::is_idle(st.sequence.stage) {
+                        st.setpoints = p;
+                    } else {
+                        st.waiting = Some(p);
+                    }
+                }
+                Request::TotalClear => st.totals = totals::clear_totals(),
+                Request::Undo => st.totals = totals::take_back(st.totals),
+                Request::ShowGross => st.panel.display = Display::Gross,
+                Request::ShowNet => st.panel.display = Display::Net,
+                Request::DayClose => {
+                    closed = Some(st.book);
+                    st.book = daybook::closed_book(st.book);
+                }
+                Request::Discharge => {
+                    st.sequence = batch::sequence::discharge_sequence(st.sequence);
+                    held = true;
+                }
             }
         }
     }

@@ -13,6 +13,8 @@ use mathlib.Core.Logic.{◌⊎◌, inl, inr}
 use lib.Dec.{eqb}
 use lib.ListN.{length, replicate, length-append}
 use borrow.Author.Tests.{eqb-true, eq-eqb, ne_eqb, le-leb, lt-leb}
+use Rattle.types.specs.declared.stages.SequenceError.TheVariants as error
+use Rattle.types.specs.declared.stages.Judgement.TheVariants as judgement
 use Rattle.types.specs.declared.stages.Setpoints.{Setpoints}
 use Rattle.types.specs.declared.machine.State.{State}
 use Rattle.outline.specs.Settings.{settings_of}
@@ -70,11 +72,11 @@ pub stage_none : (t : ℕ) → stage_of 0 t ≡ Idle
 unfolding stage_of
 stage_none t = refl
 
-pub error_none : error_of 0 ≡ None
+pub error_none : error_of 0 ≡ error.None
 unfolding error_of
 error_none = refl
 
-pub judgement_none : judgement_of 0 ≡ None
+pub judgement_none : judgement_of 0 ≡ judgement.None
 unfolding judgement_of
 judgement_none = refl
 

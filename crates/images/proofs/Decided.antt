@@ -28,6 +28,7 @@ use Rattle.types.specs.declared.stages.Stage.TheVariants.{Idle, StartDelay, Larg
 use Rattle.types.specs.declared.stages.SequenceError.{SequenceError}
 use Rattle.types.specs.declared.stages.SequenceError.TheVariants as error
 use Rattle.types.specs.declared.stages.Judgement.{Judgement}
+use Rattle.types.specs.declared.stages.Judgement.TheVariants as judgement
 use Rattle.types.specs.declared.stages.Sequence.{Sequence}
 use Rattle.types.specs.declared.stages.Totals.{Totals}
 use Rattle.types.specs.declared.machine.State.{State}
@@ -256,17 +257,17 @@ clock_none false true n m c h k = absurd (clash refl k)
 clock_none false false n m c h k = omega arith
 
 -- errors and judgements
-error_none : (e : SequenceError) → eqb (error_number e) 0 ≡ true → e ≡ None
+error_none : (e : SequenceError) → eqb (error_number e) 0 ≡ true → e ≡ error.None
 unfolding error_of
 error_none e h = sym (error_back e) ∙ ap error_of (eqb-true (error_number e) 0 h)
 
-judgement_none : (j : Judgement) → eqb (judgement_number j) 0 ≡ true → j ≡ None
+judgement_none : (j : Judgement) → eqb (judgement_number j) 0 ≡ true → j ≡ judgement.None
 unfolding judgement_of
 judgement_none j h = sym (judgement_back j) ∙ ap judgement_of (eqb-true (judgement_number j) 0 h)
 
 of_discharge_lem : (d : Bool) (e : SequenceError) → d || eqb (error_number e) 7 || eqb (error_number e) 8 ≡ d || of_discharge e
 of_discharge_lem true e = refl
-of_discharge_lem false None = refl
+of_discharge_lem false error.None = refl
 of_discharge_lem false error.NoFinal = refl
 of_discharge_lem false error.Reached = refl
 of_discharge_lem false error.Stopped = refl

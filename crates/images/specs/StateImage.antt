@@ -82,10 +82,10 @@ error_of n =
     (cond (eqb n 9) error.BadWeight
     (cond (eqb n 10) error.NotBooked
     (cond (eqb n 7) error.DischargeStopped
-    (cond (eqb n 8) error.DischargeTime None)))))))
+    (cond (eqb n 8) error.DischargeTime error.None)))))))
 
 unfoldable pub judgement_of : ℕ → Judgement
-judgement_of n = cond (eqb n 1) judgement.Ok (cond (eqb n 2) judgement.Over (cond (eqb n 3) judgement.Under None))
+judgement_of n = cond (eqb n 1) judgement.Ok (cond (eqb n 2) judgement.Over (cond (eqb n 3) judgement.Under judgement.None))
 
 -- whether a batch can be taken back, and its weight, which is 0 where there is none (D113)
 unfoldable pub back_tag : Option ℕ → ℕ

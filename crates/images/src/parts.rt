@@ -17,7 +17,7 @@ ghost use Rattle.images.specs.Holds.{Turns, with_panel};
 use crate::names::{display_number, display_of, error_of, judgement_of, stage_of, stage_timer};
 use numbers::{error_number, judgement_number, stage_number};
 use types::daybook::Book;
-use types::stages::{Sequence, Setpoints, Stage, Totals};
+use types::stages::{Judgement, Sequence, SequenceError, Setpoints, Stage, Totals};
 use types::weight::{Display, Panel, Stability, Weighing};
 
 // The bytes of a state image.

@@ -2,41 +2,43 @@
 use Rattle.std.proofs.Common.{rules, ◌≡◌, ap, ◌∙◌, Ok}
 use Rattle.types.specs.declared.machine.Ticked.{Ticked}
 use Rattle.outline.specs.Numbers.{outcome_number}
-use Rattle.outline.specs.Requests.{granted_of}
+use Rattle.outline.specs.Requests.{granted_of, grant_of}
 use Rattle.outline.specs.Stages.{stop_sequence}
 use Rattle.outline.specs.Tick.{next_of}
 use Rattle.outline.specs.Steps.{parts_of, left_of, Asked}
 use Rattle.outline.proofs.AnswerLaws.{tick_number}
 use Rattle.outline.proofs.Steps.{asked_held, asked_stepped, asked_tick}
 use Rattle.controller.proofs.tick.Goals as goal
-use Rattle.controller.proofs.tick.Goals.{in-Some+in-Zero, in-Some+in-Tare, in-Some+in-TareClear, in-Some+in-Start, in-Some+in-Stop+then-not-is_idle, in-Some+in-Stop+else-not-is_idle, in-Some+in-Set+then-is_idle, in-Some+in-Set+else-is_idle, in-Some+in-TotalClear, in-Some+in-Undo, in-Some+in-ShowGross, in-Some+in-ShowNet, in-Some+in-DayClose, in-Some+in-Discharge, in_default}
+use Rattle.controller.proofs.tick.Goals.{in-Ok+in_default-request, in-Ok+in-Some+in-Zero, in-Ok+in-Some+in-Tare, in-Ok+in-Some+in-TareClear, in-Ok+in-Some+in-Start, in-Ok+in-Some+in-Stop+then-not-is_idle, in-Ok+in-Some+in-Stop+else-not-is_idle, in-Ok+in-Some+in-Set+then-is_idle, in-Ok+in-Some+in-Set+else-is_idle, in-Ok+in-Some+in-TotalClear, in-Ok+in-Some+in-Undo, in-Ok+in-Some+in-ShowGross, in-Ok+in-Some+in-ShowNet, in-Ok+in-Some+in-DayClose, in-Ok+in-Some+in-Discharge, in_default}
 use Rattle.controller.proofs.tick.Goals.{then-not-held, else-not-held}
 
 pub returns-clause-ticked : goal.returns-clause-ticked
 unfolding granted_of stop_sequence
 returns-clause-ticked c =
     let a = c.args in
-    let m = c.match-granted in
+    let m = c.match-outcome in
+    let d = grant_of c.ruling-outcome.result a.i.request in
     let left : left_of (Ok tt) m.st m.held m.keyed m.closed
-    ≡ granted_of (parts_of a.st c.book_tick-st.result c.steadied-st.result a.st.weighing) c.weigh-x.result c.granted.result
+    ≡ granted_of (parts_of a.st c.book_tick-st.result c.steadied-st.result a.st.weighing) c.weigh-x.result d
     = elim m.branch [
-      | in-Some+in-Zero w ↦ search rules
-      | in-Some+in-Tare w ↦ search rules
-      | in-Some+in-TareClear w ↦ search rules
-      | in-Some+in-Start w ↦ search rules
-      | in-Some+in-Stop+then-not-is_idle w ↦ search rules
-      | in-Some+in-Stop+else-not-is_idle w ↦ search rules
-      | in-Some+in-Set+then-is_idle w ↦ search rules
-      | in-Some+in-Set+else-is_idle w ↦ search rules
-      | in-Some+in-TotalClear w ↦ search rules
-      | in-Some+in-Undo w ↦ search rules
-      | in-Some+in-ShowGross w ↦ search rules
-      | in-Some+in-ShowNet w ↦ search rules
-      | in-Some+in-DayClose w ↦ search rules
-      | in-Some+in-Discharge w ↦ search rules
+      | in-Ok+in-Some+in-Zero w ↦ search rules
+      | in-Ok+in-Some+in-Tare w ↦ search rules
+      | in-Ok+in-Some+in-TareClear w ↦ search rules
+      | in-Ok+in-Some+in-Start w ↦ search rules
+      | in-Ok+in-Some+in-Stop+then-not-is_idle w ↦ search rules
+      | in-Ok+in-Some+in-Stop+else-not-is_idle w ↦ search rules
+      | in-Ok+in-Some+in-Set+then-is_idle w ↦ search rules
+      | in-Ok+in-Some+in-Set+else-is_idle w ↦ search rules
+      | in-Ok+in-Some+in-TotalClear w ↦ search rules
+      | in-Ok+in-Some+in-Undo w ↦ search rules
+      | in-Ok+in-Some+in-ShowGross w ↦ search rules
+      | in-Ok+in-Some+in-ShowNet w ↦ search rules
+      | in-Ok+in-Some+in-DayClose w ↦ search rules
+      | in-Ok+in-Some+in-Discharge w ↦ search rules
+      | in-Ok+in_default-request w ↦ search rules
       | in_default w ↦ search rules
     ] in
-    let asked : Asked a.s a.st a.i c.raw_of-raw.result c.steadied-st.result c.book_tick-st.result c.weigh-x.result c.ruling-outcome.result c.granted.result
+    let asked : Asked a.s a.st a.i c.raw_of-raw.result c.steadied-st.result c.book_tick-st.result c.weigh-x.result c.ruling-outcome.result d
     m.st m.held m.keyed m.closed c.weigh-served.result c.is_idle-idle.result c.tracked-st.result
     = record {
       raws = search rules;
