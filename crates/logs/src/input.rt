@@ -1,5 +1,5 @@
-// The log on a reader, read in pieces of one buffer. Which bytes come is the world's, so these functions have no one outcome; which line the
-// bytes hold is promised by `reader`, and here that it is this line that is given. A read that fails is given on.
+// The log on a reader, read in pieces of one buffer. Which bytes come is the world's, so these functions have no one outcome; which line
+// the bytes hold is promised by `reader`, and here that it is this line that is given. A read that fails is given on.
 ghost use Rattle.std.specs.Prelude.{◌≡◌, IfOk};
 ghost use Rattle.outline.specs.Log.{line_at, next_line};
 

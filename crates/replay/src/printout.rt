@@ -1,6 +1,6 @@
 // What is printed: the opening's answer, a line for each tick with its outputs and the state after it, and the line that could not be
-// read. No text is promised, only that it ends, whatever it is given, and fails only where a write does; it is held to stored outputs and to
-// the peer's.
+// read. No text is promised, only that it ends, whatever it is given, and fails only where a write does; it is held to stored outputs and
+// to the peer's.
 //
 // A key and its value are a call each: a key has a known length, and is then copied as a few words.
 use crate::text::Output;
