@@ -96,7 +96,8 @@ fn show(display: Display, state: &mut [u8])
 
 // The reply that is due to a line, into its buffer. A read changes nothing in step 4, so that what stands before it is what step 4 leaves.
 // Of the state a reply asks for the panel, both sets of setpoints and the totals; the other parts stand as at the opening, and are not
-// looked at.
+// looked at. In a frame of its own, as every step is, though one call alone has it.
+#[inline(never)]
 pub(crate) fn reply(
     s: Settings,
     command: Result<Order, LineFault>,

@@ -302,7 +302,8 @@ fn is_image(n: usize) -> bool
 }
 
 // Whether the state in the image s, or in an earlier one, can be under the settings in the image g: part by part, so that few parts are at
-// hand at once.
+// hand at once, and in a frame that is given back before a tick begins.
+#[inline(never)]
 pub fn is_possible(g: &[u8], s: &[u8]) -> bool
     ensures { result ≡ possible_in g.now s.now }
 {

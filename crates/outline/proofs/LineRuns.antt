@@ -1,5 +1,5 @@
 -- What holds of the answer of a run's tick holds of that of a tick with a line: the gates, and the day that a DC closes. Assumes nothing.
-use Rattle.std.specs.Prelude.{Option, Result, Ok, ℕ, None, Some}
+use Rattle.std.specs.Prelude.{Option, Result, Ok, ℕ, Some}
 use Prim.Native.Nat.{ℕ}
 use native.Mathlib.Omega.{arith}
 use mathlib.Core.Path.{◌≡◌, sym, subst}

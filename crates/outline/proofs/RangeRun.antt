@@ -1,6 +1,5 @@
 -- Every state that is reached is in range, and so are the weights of its next tick: part by part, by the ticks that have passed.
 -- Assumes nothing.
-use Rattle.std.specs.Prelude.{None}
 use native.Mathlib.Omega.{arith}
 use mathlib.Core.Path.{◌≡◌, refl}
 use mathlib.Core.Bool.{Bool, true, false, ◌||◌}

@@ -1,6 +1,6 @@
 -- What holds of every tick with a line, whatever the two buffers: the outline's section "Serial lines" as named statements, for whatever
 -- settings and state, or for every run (4 and 5). They are proved in proofs/, and `every_line` has them as its `ensures`.
-use Rattle.std.specs.Prelude.{ℕ, ◌≤◌, ◌≡◌, Bool, true, false, ◌&&◌, ◌||◌, List, ◌++◌, leb, length, drop, ℤ, Some, Ok, Err, None}
+use Rattle.std.specs.Prelude.{ℕ, ◌≤◌, ◌≡◌, Bool, true, false, ◌&&◌, ◌||◌, List, ◌++◌, leb, length, drop, ℤ, Some, Ok, Err}
 use Rattle.types.specs.declared.settings.Settings.{Settings}
 use Rattle.types.specs.declared.stages.Setpoints.{Setpoints}
 use Rattle.types.specs.declared.machine.State.{State}
