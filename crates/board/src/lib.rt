@@ -124,7 +124,8 @@ fn opened(settings: &[u8]) -> Result<Settings, CallRefusal>
 }
 
 // The settings of a call, where both its images are ones; the state's buffer is refused for its bytes with `bytes`. Drawn into each call, so
-// that the deepest chain, that of `is_possible`, has no frame of its own here (bench/stack).
+// that the deepest chain, that of `is_possible`, has no frame of its own here; and the calls match its answer, where `?` would have the
+// settings on the stack twice (bench/stack).
 #[inline(always)]
 fn judged(
     settings: &[u8],
@@ -280,8 +281,10 @@ fn tick(
     ensures outputs { answer.new
         ≡ tick_buffer settings.now state.old count contact request points.now answer.old }
 {
-    let s = judged(settings, bytes_refusal(state), state)?;
-    run_tick(s, count, contact, asked(request, points), state, answer)
+    match judged(settings, bytes_refusal(state), state) {
+        Ok(s) => run_tick(s, count, contact, asked(request, points), state, answer),
+        Err(n) => Err(n),
+    }
 }
 
 // One tick, asked by a number.
@@ -382,8 +385,10 @@ fn line(
         ≡ line_buffer settings.now state.old count contact receive.now reply.old
         answer.old }
 {
-    let s = judged(settings, bytes_refusal(state), state)?;
-    run_line(s, count, contact, receive, reply, state, answer)
+    match judged(settings, bytes_refusal(state), state) {
+        Ok(s) => run_line(s, count, contact, receive, reply, state, answer),
+        Err(n) => Err(n),
+    }
 }
 
 // One tick with a receive buffer, whose line it obeys. The reply's length stands in the answer.
@@ -443,8 +448,10 @@ fn block(
     ensures told { done_number result ≡ block_answer settings.now state.old counts.now contact }
     ensures image { state.new ≡ block_image settings.now state.old counts.now contact }
 {
-    let s = judged(settings, bytes_refusal(state), state)?;
-    run_block(s, counts, contact, state)
+    match judged(settings, bytes_refusal(state), state) {
+        Ok(s) => run_block(s, counts, contact, state),
+        Err(n) => Err(n),
+    }
 }
 
 // A block of counts, one tick each, with one contact and no requests.
