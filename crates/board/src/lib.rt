@@ -124,8 +124,7 @@ fn opened(settings: &[u8]) -> Result<Settings, CallRefusal>
 }
 
 // The settings of a call, where both its images are ones; the state's buffer is refused for its bytes with `bytes`. Drawn into each call, so
-// that the deepest chain, that of `is_possible`, has no frame of its own here; and the calls match its answer, where `?` would have the
-// settings on the stack twice (bench/stack).
+// that the deepest chain, that of `is_possible`, has no frame of its own here (bench/stack).
 #[inline(always)]
 fn judged(
     settings: &[u8],
@@ -281,10 +280,8 @@ fn tick(
     ensures outputs { answer.new
         ≡ tick_buffer settings.now state.old count contact request points.now answer.old }
 {
-    match judged(settings, bytes_refusal(state), state) {
-        Ok(s) => run_tick(s, count, contact, asked(request, points), state, answer),
-        Err(n) => Err(n),
-    }
+    let s = judged(settings, bytes_refusal(state), state)?;
+    run_tick(s, count, contact, asked(request, points), state, answer)
 }
 
 // One tick, asked by a number.
@@ -385,10 +382,8 @@ fn line(
         ≡ line_buffer settings.now state.old count contact receive.now reply.old
         answer.old }
 {
-    match judged(settings, bytes_refusal(state), state) {
-        Ok(s) => run_line(s, count, contact, receive, reply, state, answer),
-        Err(n) => Err(n),
-    }
+    let s = judged(settings, bytes_refusal(state), state)?;
+    run_line(s, count, contact, receive, reply, state, answer)
 }
 
 // One tick with a receive buffer, whose line it obeys. The reply's length stands in the answer.
@@ -448,10 +443,8 @@ fn block(
     ensures told { done_number result ≡ block_answer settings.now state.old counts.now contact }
     ensures image { state.new ≡ block_image settings.now state.old counts.now contact }
 {
-    match judged(settings, bytes_refusal(state), state) {
-        Ok(s) => run_block(s, counts, contact, state),
-        Err(n) => Err(n),
-    }
+    let s = judged(settings, bytes_refusal(state), state)?;
+    run_block(s, counts, contact, state)
 }
 
 // A block of counts, one tick each, with one contact and no requests.
