@@ -116,6 +116,7 @@ fn first_refusal(settings: &[u8], bytes: Result<(), ImageRefusal>) -> Result<(),
     images_refusal(given_refusal(settings), bytes).map_err(CallRefusal::Image)
 }
 
+#[inline(never)]
 fn opened(settings: &[u8]) -> Result<Settings, CallRefusal>
     ensures number { length settings.now ≡ given_length → opened_number result ≡ opening_number (open_of (given_by settings.now)) }
     ensures settings { length settings.now ≡ given_length → IfOk result (λ s. s ≡ settings_by settings.now) }
