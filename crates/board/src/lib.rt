@@ -124,9 +124,9 @@ fn opened(settings: &[u8]) -> Result<Settings, CallRefusal>
     opening::open(given_at(settings)).ok_or(CallRefusal::Settings)
 }
 
-// The settings of a call, where both its images are ones; the state's buffer is refused for its bytes with `bytes`. Drawn into each call, so
-// that the deepest chain, that of `is_possible`, has no frame of its own here (bench/stack).
-#[inline(always)]
+// The settings of a call, where both its images are ones; the state's buffer is refused for its bytes with `bytes`. In a frame of
+// its own, which is given back before a tick begins.
+#[inline(never)]
 fn judged(
     settings: &[u8],
     bytes: Result<(), ImageRefusal>,

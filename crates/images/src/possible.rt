@@ -272,6 +272,7 @@ fn write_fits(g: &[u8], w: Option<Setpoints>) -> bool
 }
 
 // What is left to ask after the day book, the totals, zero and tare, and what waits: the other parts, and how all go together.
+#[inline(always)]
 fn is_rest(
     g: &[u8],
     q: Stability,
@@ -302,8 +303,7 @@ fn is_image(n: usize) -> bool
 }
 
 // Whether the state in the image s, or in an earlier one, can be under the settings in the image g: part by part, so that few parts are at
-// hand at once, and in a frame that is given back before a tick begins.
-#[inline(never)]
+// hand at once.
 pub fn is_possible(g: &[u8], s: &[u8]) -> bool
     ensures { result ≡ possible_in g.now s.now }
 {
