@@ -271,7 +271,8 @@ fn write_fits(g: &[u8], w: Option<Setpoints>) -> bool
     }
 }
 
-// What is left to ask after the day book, the totals, zero and tare, and what waits: the other parts, and how all go together.
+// What is left to ask after the day book, the totals, zero and tare, and what waits: the other parts, and how all go together. In the
+// frame of its caller, which is as large.
 #[inline(always)]
 fn is_rest(
     g: &[u8],
@@ -303,7 +304,8 @@ fn is_image(n: usize) -> bool
 }
 
 // Whether the state in the image s, or in an earlier one, can be under the settings in the image g: part by part, so that few parts are at
-// hand at once.
+// hand at once, and in a frame of its own, which is given back before a tick begins (bench/stack).
+#[inline(never)]
 pub fn is_possible(g: &[u8], s: &[u8]) -> bool
     ensures { result ≡ possible_in g.now s.now }
 {
