@@ -4,7 +4,7 @@
 // its place.
 #![tactic(auto)]
 
-ghost use Rattle.std.specs.Prelude.{◌≡◌, cond, length, true, IfOk, Result, ℕ};
+ghost use Rattle.std.specs.Prelude.{◌≡◌, cond, length, true, IfOk, MatchResult, Result, ℕ};
 ghost use Rattle.outline.specs.Numbers.{outcome_number, block_number, told_number};
 ghost use Rattle.outline.specs.Numbers.{opening_number};
 ghost use Rattle.outline.specs.Settings.{open_of};
@@ -19,12 +19,13 @@ ghost use Rattle.images.specs.Refusals.{bytes_number};
 ghost use Rattle.images.specs.Holds.{Turns, Tells, with_panel};
 ghost use Rattle.outline.specs.Parts.{with_book, with_stability, with_weighing, with_setpoints, with_sequence, with_totals};
 ghost use Rattle.board.specs.Owed.{CallsAreTicks, OpensARun, CallsAreRuns, GrowsPass, GrowsARun, GrowsEarlier, LengthTold};
-ghost use Rattle.board.specs.Board.{images_refusal, given_by, settings_by, length_refusal, open_answer, open_image, grow_answer, grow_image};
+ghost use Rattle.board.specs.Board.{images_refusal, given_by, settings_by, length_refusal, open_answer, open_image};
+ghost use Rattle.board.specs.Board.{grow_answer, grow_image};
 ghost use Rattle.board.specs.Board.{if_room, room_answer, room_image, room_buffer, input_of, told_of};
 ghost use Rattle.board.specs.Board.{tick_answer, tick_image, tick_buffer, line_answer, line_image, line_reply, line_buffer};
 ghost use Rattle.board.specs.Board.{block_answer, block_image};
 ghost use Rattle.board.specs.AskedBy.{is_known, request_in};
-ghost use Rattle.board.specs.Called.{refusal_number, told_by, done_number, opened_number, judged_number};
+ghost use Rattle.board.specs.Called.{refusal_number, told_by, done_number, opened_number, judged_number, LeftToOpen};
 
 use answer::put_closed;
 use asked::{NoRequest, asked};
@@ -124,24 +125,20 @@ fn opened(settings: &[u8]) -> Result<Settings, CallRefusal>
     opening::open(given_at(settings)).ok_or(CallRefusal::Settings)
 }
 
-// The settings of a call, where both its images are ones; the state's buffer is refused for its bytes with `bytes`. In a frame of
-// its own, which is given back before a tick begins.
-#[inline(never)]
-fn judged(
-    settings: &[u8],
-    bytes: Result<(), ImageRefusal>,
-    image: &[u8],
-) -> Result<Settings, CallRefusal>
+// Whether both images of a call are ones; the state's buffer is refused for its bytes with `bytes`. What then is left to refuse is the
+// settings, which `opened` tells: it is a call of its own, so that a test of a state and an opening are not on the stack at once.
+fn judged(settings: &[u8], bytes: Result<(), ImageRefusal>, image: &[u8]) -> Result<(), CallRefusal>
     requires { bytes_number bytes ≡ 0 → is_image (length image.now) ≡ true }
-    ensures number { opened_number result ≡ judged_number settings.now (bytes_number bytes) image.now }
-    ensures settings { IfOk result (λ s. s ≡ settings_by settings.now) }
+    ensures number { MatchResult result
+        (λ u. LeftToOpen settings.now (bytes_number bytes) image.now)
+        (λ n. refusal_number n ≡ judged_number settings.now (bytes_number bytes) image.now) }
     ensures bytes { Bytes image.now }
 {
     first_refusal(settings, bytes)?;
     if !is_possible(settings, image) {
         return Err(CallRefusal::Image(ImageRefusal::Impossible));
     }
-    opened(settings)
+    Ok(())
 }
 
 #[tactic(auto, unfolding(crate::specs::Board::length_refusal))]
@@ -201,6 +198,7 @@ fn grow(settings: &[u8], earlier: &[u8], state: &mut [u8]) -> Result<(), CallRef
 {
     let bytes = images_refusal(length_refusal(state.len()), earlier_refusal(earlier));
     judged(settings, bytes, earlier)?;
+    opened(settings)?;
     // in the opening state, all bytes 0, nothing waits
     places::clear(state);
     put_weighed(earlier, state);
@@ -281,7 +279,8 @@ fn tick(
     ensures outputs { answer.new
         ≡ tick_buffer settings.now state.old count contact request points.now answer.old }
 {
-    let s = judged(settings, bytes_refusal(state), state)?;
+    judged(settings, bytes_refusal(state), state)?;
+    let s = opened(settings)?;
     run_tick(s, count, contact, asked(request, points), state, answer)
 }
 
@@ -383,7 +382,8 @@ fn line(
         ≡ line_buffer settings.now state.old count contact receive.now reply.old
         answer.old }
 {
-    let s = judged(settings, bytes_refusal(state), state)?;
+    judged(settings, bytes_refusal(state), state)?;
+    let s = opened(settings)?;
     run_line(s, count, contact, receive, reply, state, answer)
 }
 
@@ -444,7 +444,8 @@ fn block(
     ensures told { done_number result ≡ block_answer settings.now state.old counts.now contact }
     ensures image { state.new ≡ block_image settings.now state.old counts.now contact }
 {
-    let s = judged(settings, bytes_refusal(state), state)?;
+    judged(settings, bytes_refusal(state), state)?;
+    let s = opened(settings)?;
     run_block(s, counts, contact, state)
 }
 

@@ -60,16 +60,16 @@ impl<'a> Output<'a> {
         ])
     }
 
-    fn judgement(self, j: Option<Judgement>) -> Self {
+    fn judgement(self, j: Judgement) -> Self {
         match j {
-            None => self.put(b" judgement=none"),
-            Some(Judgement::Ok) => self.put(b" judgement=ok"),
-            Some(Judgement::Over) => self.put(b" judgement=over"),
-            Some(Judgement::Under) => self.put(b" judgement=under"),
+            Judgement::None => self.put(b" judgement=none"),
+            Judgement::Ok => self.put(b" judgement=ok"),
+            Judgement::Over => self.put(b" judgement=over"),
+            Judgement::Under => self.put(b" judgement=under"),
         }
     }
 
-    fn signals(self, error: Option<SequenceError>, near: bool, full: bool) -> Self {
+    fn signals(self, error: SequenceError, near: bool, full: bool) -> Self {
         self.put(b" error=")
             .number(u64::from(error_number(error)))
             .put(b" nearzero=")

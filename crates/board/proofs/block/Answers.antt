@@ -12,24 +12,33 @@ use Rattle.board.proofs.block.Goals as goal
 pub judged-requires : goal.judged-requires
 judged-requires c e = bytes_image c.args.state.now (sym c.bytes_refusal.ensures ∙ e)
 
+pub returns-in_err-judged : goal.returns-in_err-judged
+returns-in_err-judged c =
+    let a = c.args in
+    let n : CallRefusal = c.in_err-judged.field-0.0 in
+    let e = c.in_err-judged.ensures.number ∙ ap (λ (b : ℕ). judged_number a.settings.now b a.state.now) c.bytes_refusal.ensures ∙ judged_state a.settings.now a.state.now in
+    let r = block-kept a.settings.now a.state.now a.counts.now a.contact (refusal_number n) (sym e) (refused n) in
+    let k : c.from_residual.result ≡ Err n = search rules in
+    record { told = rw k r.0; image = r.1 }
+
 pub returns-in_err-s : goal.returns-in_err-s
 returns-in_err-s c =
     let a = c.args in
     let n : CallRefusal = c.in_err-s.field-0.0 in
-    let e = c.in_err-s.ensures.number ∙ ap (λ (b : ℕ). judged_number a.settings.now b a.state.now) c.bytes_refusal.ensures ∙ judged_state a.settings.now a.state.now in
+    let e = c.in_err-s.ensures.number c.in_ok-judged.ensures.number.0 ∙ c.in_ok-judged.ensures.number.1 ∙ ap (λ (b : ℕ). judged_number a.settings.now b a.state.now) c.bytes_refusal.ensures ∙ judged_state a.settings.now a.state.now in
     let r = block-kept a.settings.now a.state.now a.counts.now a.contact (refusal_number n) (sym e) (refused n) in
-    let k : c.from_residual.result ≡ Err n = search rules in
+    let k : c.from_residual-in_err-s.result ≡ Err n = search rules in
     record { told = rw k r.0; image = r.1 }
 
 pub returns : goal.returns
 unfolding block_by
 returns c =
     let a = c.args in
-    let u = sym (c.in_ok-s.ensures.number ∙ ap (λ (b : ℕ). judged_number a.settings.now b a.state.now) c.bytes_refusal.ensures ∙ judged_state a.settings.now a.state.now) in
+    let u = sym (c.in_ok-s.ensures.number c.in_ok-judged.ensures.number.0 ∙ c.in_ok-judged.ensures.number.1 ∙ ap (λ (b : ℕ). judged_number a.settings.now b a.state.now) c.bytes_refusal.ensures ∙ judged_state a.settings.now a.state.now) in
     let h = buffer_held a.settings.now a.state.now c.judged.ensures.bytes u in
     let r = block-done a.settings.now a.state.now a.counts.now a.contact u in
     let k = c.run_block.ensures in
-    let same = same_block a.counts.now a.contact c.in_ok-s.ensures.settings refl in
+    let same = same_block a.counts.now a.contact (c.in_ok-s.ensures.settings c.in_ok-judged.ensures.number.0) refl in
     record {
       told = k.told _ h ∙ (λ i. block_number (same i).answer) ∙ r.0;
       image = k.image _ h ∙ (λ i. image_of (same i).state) ∙ r.1;

@@ -24,12 +24,21 @@ returns-in_err-judged c =
     let k : c.from_residual.result ≡ Err n = search rules in
     record { told = rw k e; image = grow_refused a.settings.now a.earlier.now a.state.now n e }
 
+pub returns-in_err-opened : goal.returns-in_err-opened
+returns-in_err-opened c =
+    let a = c.args in
+    let n : CallRefusal = c.in_err-opened.field-0.0 in
+    let same = c.images_refusal-bytes.ensures ∙ (λ i. images_refusal (c.length_refusal.ensures i) (c.earlier_refusal.ensures i)) in
+    let e = c.in_err-opened.ensures.number c.in_ok-judged.ensures.number.0 ∙ c.in_ok-judged.ensures.number.1 ∙ ap (λ (b : ℕ). judged_number a.settings.now b a.earlier.now) same ∙ judged_earlier a.settings.now a.earlier.now (length a.state.now) in
+    let k : c.from_residual-in_err-opened.result ≡ Err n = search rules in
+    record { told = rw k e; image = grow_refused a.settings.now a.earlier.now a.state.now n e }
+
 pub returns : goal.returns
 unfolding open_state
 returns c =
     let a = c.args in
     let same = c.images_refusal-bytes.ensures ∙ (λ i. images_refusal (c.length_refusal.ensures i) (c.earlier_refusal.ensures i)) in
-    let e = c.in_ok-judged.ensures.number ∙ ap (λ (b : ℕ). judged_number a.settings.now b a.earlier.now) same ∙ judged_earlier a.settings.now a.earlier.now (length a.state.now) in
+    let e = c.in_ok-opened.ensures.number c.in_ok-judged.ensures.number.0 ∙ c.in_ok-judged.ensures.number.1 ∙ ap (λ (b : ℕ). judged_number a.settings.now b a.earlier.now) same ∙ judged_earlier a.settings.now a.earlier.now (length a.state.now) in
     let z = grow_state a.settings.now a.earlier.now a.state.now (sym e) in
     let cleared = held_as_bytes (c.clear.ensures ∙ ap (λ (n : ℕ). replicate n 0) z.2) open_holds in
     record {

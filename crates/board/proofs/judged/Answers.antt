@@ -36,7 +36,4 @@ returns-clause-number c =
     let w = sym c.in_ok-first_refusal.ensures in
     let long = given_long l (given_passes _ _ w) in
     let p = sym (c.is_possible.ensures ∙ possible_here l _ long (c.requires (state_passes _ _ (given_by l) w))) ∙ c.if-not-is_possible.false in
-    c.opened.ensures.number long ∙ judged_settings _ _ (given_by l) w _ p
-
-pub returns-clause-settings : goal.returns-clause-settings
-returns-clause-settings c = c.opened.ensures.settings (given_long c.args.settings.now (given_passes _ _ (sym c.in_ok-first_refusal.ensures)))
+    (long, judged_settings _ _ (given_by l) w _ p)
