@@ -1,5 +1,5 @@
 -- What a call is refused with, step by step. Assumes nothing.
-use Rattle.std.specs.Prelude.{None, Some, ℕ, Option, Result, Ok, Err, List}
+use Rattle.std.specs.Prelude.{ℕ, List}
 use native.Mathlib.Omega.{arith}
 use mathlib.Core.Path.{◌≡◌, refl, sym, ap, ◌∙◌}
 use mathlib.Core.Bool.{Bool, true, false, cond}
@@ -7,7 +7,6 @@ use lib.Dec.{eqb}
 use lib.ListN.{length, replicate}
 use borrow.Author.Tests.{eqb-true}
 use Rattle.types.specs.declared.settings.Given.{Given}
-use Rattle.types.specs.declared.settings.Settings.{Settings}
 use Rattle.outline.specs.Settings.{open_of}
 use Rattle.outline.specs.Numbers.{opening_number}
 use Rattle.outline.specs.Tick.{open_state}

@@ -8,7 +8,6 @@ use lib.IntN.{ℤ}
 use Rattle.types.specs.declared.requests.Refusal.{Refusal}
 use Rattle.types.specs.declared.settings.Settings.{Settings}
 use Rattle.types.specs.declared.requests.Request.{Request}
-use Rattle.types.specs.declared.requests.Request.TheVariants as request
 use Rattle.types.specs.declared.weight.Panel.{Panel}
 use Rattle.types.specs.declared.weight.Weights.{Weights}
 use Rattle.outline.specs.Setpoints.{latest_of}

@@ -81,6 +81,7 @@ pub(crate) fn put_closed(s: &mut [u8], closed: Option<Book>)
 }
 
 // No value is a NaN, which has no bits of its own.
+// `x != x` as the definition has it: with `is_nan` the proof didn't close.
 #[tactic(auto, unfolding(crate::specs::AnswerImage::float_bits))]
 fn float_bits(x: f64) -> u64
     ensures { result ≡ float_bits x }

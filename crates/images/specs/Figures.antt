@@ -1,6 +1,6 @@
 -- Figures of images, worked out by hand from the request, the readings and docs/IMAGES.md before any definition was seen. They are proved
 -- in proofs/, and `every_image` has them as its `ensures`.
-use Rattle.std.specs.Prelude.{ℕ, ◌≡◌, Bool, true, false, ℤ, pos, set, replicate, None, Some, Option}
+use Rattle.std.specs.Prelude.{ℕ, ◌≡◌, Bool, true, false, ℤ, pos, set, replicate, None, Some}
 use mathlib.Core.List.{List, [], ◌∷◌, foldl}
 use Rattle.outline.specs.Figures.{minus, list_a, given_of}
 use Rattle.types.specs.declared.settings.Given.{Given}

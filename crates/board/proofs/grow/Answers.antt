@@ -1,13 +1,12 @@
 -- The images refuse, the ranges or the settings do, or the earlier image grows to that of its state.
 use Rattle.std.proofs.Common.{rules, ◌≡◌, sym, ap, ◌∙◌, ℕ, Err, length, replicate}
 use Rattle.outline.specs.Tick.{open_state}
-use Rattle.images.specs.Images.{earlier_refusal}
 use Rattle.images.proofs.InPlace.{open_holds}
 use Rattle.board.specs.declared.CallRefusal.{CallRefusal}
 use Rattle.board.specs.Board.{images_refusal, given_by}
-use Rattle.board.specs.Called.{refusal_number, judged_number}
+use Rattle.board.specs.Called.{judged_number}
 use Rattle.board.proofs.Held.{grown_bytes, held_as_bytes}
-use Rattle.board.proofs.Refused.{refused, judged_earlier, earlier_image, grow_refused, grow_done, grow_state}
+use Rattle.board.proofs.Refused.{judged_earlier, earlier_image, grow_refused, grow_done, grow_state}
 use Rattle.board.proofs.grow.Goals as goal
 
 pub judged-requires : goal.judged-requires

@@ -1,13 +1,12 @@
 -- The lengths and the bytes refuse, then the ranges, then the settings.
-use Rattle.std.proofs.Common.{rules, ◌≡◌, sym, ap, ◌∙◌, ℕ, Err}
+use Rattle.std.proofs.Common.{rules, ◌≡◌, sym, ◌∙◌, Err}
 use Rattle.images.specs.GivenImage.{given_in}
-use Rattle.images.specs.Refusals.{bytes_number}
 use Rattle.images.specs.StateImage.{state_at}
 use Rattle.images.specs.Possible.{possible}
 use Rattle.images.proofs.Buffers.{possible_here}
 use Rattle.board.specs.declared.CallRefusal.{CallRefusal}
-use Rattle.board.specs.Board.{images_refusal, given_by, settings_by}
-use Rattle.board.specs.Called.{opened_number, judged_number}
+use Rattle.board.specs.Board.{given_by, settings_by}
+use Rattle.board.specs.Called.{judged_number}
 use Rattle.board.proofs.Cases.{given_passes, state_passes, given_long}
 use Rattle.board.proofs.Refused.{judged_first, judged_ranges, judged_settings}
 use Rattle.board.proofs.judged.Goals as goal

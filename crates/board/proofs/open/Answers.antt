@@ -1,11 +1,10 @@
 -- The images refuse, the settings do, or every byte is made 0, which is the opening state's image.
-use Rattle.std.proofs.Common.{rules, ◌≡◌, sym, ap, ◌∙◌, Err, length}
+use Rattle.std.proofs.Common.{rules, ◌≡◌, sym, ap, ◌∙◌, Err}
 use Rattle.board.specs.declared.CallRefusal.{CallRefusal}
 use Rattle.images.specs.GivenImage.{given_in}
 use Rattle.board.specs.Board.{images_refusal}
-use Rattle.board.specs.Called.{refusal_number}
 use Rattle.board.proofs.Cases.{open_given}
-use Rattle.board.proofs.Refused.{refused, open_kept, open_settings, open_good}
+use Rattle.board.proofs.Refused.{open_kept, open_settings, open_good}
 use Rattle.board.proofs.open.Goals as goal
 
 pub returns-in_err-first_refusal : goal.returns-in_err-first_refusal

@@ -4,7 +4,6 @@ use mathlib.Core.List.{foldl, foldl-append}
 use lib.Seq.{take_all, take-suc}
 use lib.IntN.{ℤ}
 use borrow.Author.Tests.{lt-leb, le-leb}
-use Rattle.types.specs.declared.machine.State.{State}
 use Rattle.outline.specs.Limits.{block_limit}
 use Rattle.outline.specs.Weight.{raw_of}
 use Rattle.outline.specs.Tick.{count_in, block_of, entered_of, weights_of}

@@ -1,5 +1,5 @@
 -- No room for the answer, or the steps, one after the other, with the line's request where its reply fits.
-use Rattle.std.proofs.Common.{rules, ◌≡◌, refl, sym, ap, ◌∙◌, Option, length}
+use Rattle.std.proofs.Common.{refl, ap, ◌∙◌, Option}
 use mir.Facts.{to_z-of_z}
 use Rattle.types.specs.declared.daybook.Book.{Book}
 use Rattle.types.specs.declared.machine.State.{State}

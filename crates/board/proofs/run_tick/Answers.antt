@@ -1,6 +1,5 @@
 -- No room for the answer, or the steps, one after the other.
-use Rattle.std.proofs.Common.{rules, ◌≡◌, sym, ap, ◌∙◌, cond, Option, None, Ok, Err, Result, refl, length, subst}
-use borrow.Author.Tests.{lt-leb}
+use Rattle.std.proofs.Common.{◌≡◌, sym, ap, ◌∙◌, cond, Option, None, Ok, Err, Result, refl, subst}
 use mir.Facts.{to_z-of_z}
 use Rattle.std.specs.Result.{result_unwrap_or}
 use Rattle.types.specs.declared.daybook.Book.{Book}
@@ -12,7 +11,7 @@ use Rattle.outline.specs.Tick.{tick_of}
 use Rattle.images.specs.Holds.{Holds}
 use Rattle.board.specs.declared.asked.NoRequest.{NoRequest}
 use Rattle.board.specs.AskedBy.{is_known, request_in}
-use Rattle.board.specs.AnswerImage.{answer_length, answer_buffer}
+use Rattle.board.specs.AnswerImage.{answer_buffer}
 use Rattle.board.specs.InPlace.{closed_put}
 use Rattle.board.specs.Board.{input_of, told_of}
 use Rattle.board.proofs.Cases.{is_room}

@@ -1,5 +1,5 @@
 -- Each row is written over the bytes that the rows before it left.
-use Rattle.std.proofs.Common.{◌≡◌, refl, rules, sym, ap, ◌∙◌, Option, None, Some}
+use Rattle.std.proofs.Common.{◌≡◌, refl, rules, ap, ◌∙◌, Option, None, Some}
 use Rattle.std.specs.Option.{is_some, unwrap_or}
 use Rattle.types.specs.declared.daybook.Book.{Book}
 use Rattle.outline.specs.DayBook.{open_book}

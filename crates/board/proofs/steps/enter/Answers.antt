@@ -1,7 +1,6 @@
 -- The day book and the stability, each from the state that was held before, and the weights of both.
 use Rattle.std.proofs.Common.{rules, ◌≡◌, ◌∙◌}
 use Rattle.types.specs.declared.machine.State.{State}
-use Rattle.images.specs.Holds.{Holds}
 use Rattle.outline.specs.Weight.{raw_of, steadied_of, weigh_of}
 use Rattle.outline.specs.DayBook.{book_of}
 use Rattle.outline.specs.Parts.{with_book, with_stability}

@@ -1,9 +1,8 @@
 -- The reply that is due asks for four parts of the state, which are those that the buffer holds.
-use Rattle.std.proofs.Common.{◌≡◌, ◌∙◌, ap, Option, List, ℕ}
+use Rattle.std.proofs.Common.{◌∙◌, ap, Option}
 use Rattle.types.specs.declared.machine.State.{State}
 use Rattle.types.specs.declared.machine.Reading.{Reading}
 use Rattle.types.specs.declared.lines.Reply.{Reply}
-use Rattle.outline.specs.Tick.{reading_of}
 use Rattle.outline.specs.Replies.{reply_text, reply_due, written_of}
 use Rattle.replies.specs.Wrote.{wrote_of}
 use Rattle.board.proofs.Held.{read_part, read_waiting}
