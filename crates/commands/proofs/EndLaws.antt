@@ -24,7 +24,7 @@ from (x ∷ s) n =
     (either (leb n line_limit) (Ok n) (Err Beyond) (n + suc (length s)) (omega arith) zero-le)
     (rw (add-suc, ← suc-add) (from s (suc n)))
 
-within : (s : List ℕ) → length_at (line_end_of s) ≤ length s
+pub within : (s : List ℕ) → length_at (line_end_of s) ≤ length s
 unfolding line_end_of
 within s = omega (arith, from s 0)
 

@@ -1,4 +1,7 @@
 -- Laws that the proofs of this crate cite
+-- a line
+pub mod RestLaws
+pub mod RequestPlace
 -- numerals
 pub mod NumberLaws
 pub mod RunLaws

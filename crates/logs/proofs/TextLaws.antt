@@ -67,7 +67,7 @@ pub numbers_more : (s : List Amount) (i : ℕ) (z : Amount) → i < length s →
 numbers_more s i z h = omega (arith, next_line s i z h, number_length (get_or s i z))
 
 -- ---- the text's length
-filled_length : (keys : List ℕ) (s : List Amount) → marks keys ≤ length s → length (filled keys s) ≡ length keys + length (number_lines (take (marks keys) s))
+pub filled_length : (keys : List ℕ) (s : List Amount) → marks keys ≤ length s → length (filled keys s) ≡ length keys + length (number_lines (take (marks keys) s))
 unfolding filled marks number_lines
 filled_length [] s h = refl
 filled_length (x ∷ keys) [] h = go (eqb x 61) h (λ k. filled_length keys [] k)

@@ -8,7 +8,6 @@ ghost use Rattle.outline.specs.Log.{is_contact, is_rest, log_line_of, is_none};
 use commands::line::byte_at;
 use types::log::LogLine;
 
-pub mod input;
 pub mod numerals;
 mod pairs;
 pub mod pieces;

@@ -17,7 +17,7 @@ and_true : (b : Bool) → b && true ≡ b
 and_true true = refl
 and_true false = refl
 
-zeros_past : (l : List ℕ) (at m k : ℕ) → length l ≤ at + m → zeros_at (k + m) at l ≡ zeros_at m at l
+pub zeros_past : (l : List ℕ) (at m k : ℕ) → length l ≤ at + m → zeros_at (k + m) at l ≡ zeros_at m at l
 unfolding zeros_at
 zeros_past l at m zero h =
     let none : zero + m ≡ m = omega arith in
@@ -35,7 +35,7 @@ nothing_there l at n h =
     sym (zeros_past l at 0 n (omega (arith, h))) ∙ ap (λ (i : ℕ). zeros_at i at l) all
 
 -- those that are there are enough to look at
-zeros_within : (l : List ℕ) (at n m : ℕ) → at ≤ length l → m ≡ min n (length l - at) → zeros_at m at l ≡ zeros_at n at l
+pub zeros_within : (l : List ℕ) (at n m : ℕ) → at ≤ length l → m ≡ min n (length l - at) → zeros_at m at l ≡ zeros_at n at l
 zeros_within l at n m h e = go (n - m) (omega (arith, e))
   where
     go : (k : ℕ) → n ≡ k + m → zeros_at m at l ≡ zeros_at n at l

@@ -1,12 +1,12 @@
--- Laws of numbers at a place, over the count of bytes n: what was written is read back, and what was read and written back changes nothing.
--- And the bits of a width to a signed number and back. Assumes nothing.
+-- Laws of numbers at a place, over the count of bytes n: two numbers side by side are one, what was written is read back, and what was read
+-- and written back changes nothing. And the bits of a width to a signed number and back. Assumes nothing.
 use mathlib.Core.Path.{◌≡◌, refl, sym, ap, ◌∙◌, subst}
 use mathlib.Core.List.{List, [], ◌∷◌, ◌++◌}
 use mathlib.Core.Bool.{Bool, true, false, ◌&&◌, true≢false}
 use Prim.Native.Nat.{ℕ, zero, suc, ◌+◌, ◌*◌, ◌/◌, ◌%◌, ◌^◌, ◌≤◌, ◌<◌}
-use native.Mathlib.Nat.{pow-suc, div-add-mod', div-lt_iff_lt-mul, zero-lt-suc, ne_of_lt}
+use native.Mathlib.Nat.{add-zero, add-suc, add_assoc, add-mul, mul-one, mul_assoc, pow-suc, pow-succ', div-one, div-div-eq-div-mul, div-add-mod', div-lt_iff_lt-mul, mod-lt, zero-lt-suc, ne_of_lt}
 use native.Mathlib.Omega.{arith}
-use lib.Arith.{digits_div, digits_mod}
+use lib.Arith.{digits_div, digits_mod, mod-mul}
 use lib.Dec.{eqb}
 use lib.IntN.{ℤ}
 use lib.ListN.{length, get_or, set, replicate, length-set}
@@ -16,6 +16,42 @@ use mir.Syntax.{Width}
 use mir.Val.{SFits, bits}
 use mir.ValLaws.{to_z-of_z, of_z-to_z, of_z_fits, to_z-Fits}
 use Rattle.places.specs.Places.{be_at, put_be, signed, coded, same_bytes}
+
+pow_pos256 : (n : ℕ) → 0 < 256 ^ n
+pow_pos256 zero = zero-lt-suc 0
+pow_pos256 (suc n) = subst (λ (x : ℕ). 0 < x) (sym (pow-suc 256 n)) (omega (arith, pow_pos256 n))
+
+-- ---- side by side
+pub be_add : (m n : ℕ) (l : List ℕ) (at : ℕ) → be_at (m + n) l at ≡ be_at m l at * 256 ^ n + be_at n l (at + m)
+unfolding be_at
+be_add m zero l at = ap (λ (k : ℕ). be_at k l at) (add-zero m) ∙ sym (add-zero (be_at m l at * 1) ∙ mul-one (be_at m l at))
+be_add m (suc n) l at =
+    ap (λ (k : ℕ). be_at k l at) (add-suc m n)
+    ∙ ap (λ (x : ℕ). x * 256 + get_or l (at + (m + n)) 0) (be_add m n l at)
+    ∙ ap (λ (k : ℕ). (be_at m l at * 256 ^ n + be_at n l (at + m)) * 256 + get_or l k 0) (sym (add_assoc at m n))
+    ∙ ap (λ (x : ℕ). x + get_or l (at + m + n) 0) (add-mul (be_at m l at * 256 ^ n) (be_at n l (at + m)) 256 ∙ ap (λ (x : ℕ). x + be_at n l (at + m) * 256) (mul_assoc (be_at m l at) (256 ^ n) 256 ∙ ap (λ (x : ℕ). be_at m l at * x) (sym (pow-suc 256 n))))
+    ∙ add_assoc (be_at m l at * 256 ^ suc n) (be_at n l (at + m) * 256) (get_or l (at + m + n) 0)
+
+pub put_add : (m n v : ℕ) (l : List ℕ) (at : ℕ) → put_be (m + n) v l at ≡ put_be n v (put_be m (v / 256 ^ n) l at) (at + m)
+unfolding put_be
+put_add m zero v l at = ap (λ (k : ℕ). put_be k v l at) (add-zero m) ∙ ap (λ (x : ℕ). put_be m x l at) (sym (div-one v))
+put_add m (suc n) v l at =
+    ap (λ (k : ℕ). put_be k v l at) (add-suc m n)
+    ∙ ap (λ (x : List ℕ). set x (at + (m + n)) (v % 256)) (put_add m n (v / 256) l at)
+    ∙ ap (λ (x : ℕ). set (put_be n (v / 256) (put_be m x l at) (at + m)) (at + (m + n)) (v % 256)) (div-div-eq-div-mul v 256 (256 ^ n) ∙ ap (λ (x : ℕ). v / x) (sym (pow-succ' 256 n)))
+    ∙ ap (λ (k : ℕ). set (put_be n (v / 256) (put_be m (v / 256 ^ suc n) l at) (at + m)) k (v % 256)) (sym (add_assoc at m n))
+
+-- only the n low bytes are written
+pub put_mod : (n v : ℕ) (l : List ℕ) (at : ℕ) → put_be n (v % 256 ^ n) l at ≡ put_be n v l at
+unfolding put_be
+put_mod zero v l at = refl
+put_mod (suc n) v l at =
+    let e : v % 256 ^ suc n ≡ (v / 256 % 256 ^ n) * 256 + v % 256 = ap (λ (x : ℕ). v % x) (pow-suc 256 n) ∙ mod-mul v (pow_pos256 n) (zero-lt-suc 255) in
+    let b : v % 256 < 256 = mod-lt v (zero-lt-suc 255) in
+    ap (λ (x : ℕ). set (put_be n (x / 256) l at) (at + n) (x % 256)) e
+    ∙ ap (λ (x : ℕ). set (put_be n x l at) (at + n) (((v / 256 % 256 ^ n) * 256 + v % 256) % 256)) (digits_div (v / 256 % 256 ^ n) b)
+    ∙ ap (λ (x : ℕ). set (put_be n (v / 256 % 256 ^ n) l at) (at + n) x) (digits_mod (v / 256 % 256 ^ n) b)
+    ∙ ap (λ (x : List ℕ). set x (at + n) (v % 256)) (put_mod n (v / 256) l at)
 
 -- ---- there and back
 pub put_length : (n v : ℕ) (l : List ℕ) (at : ℕ) → length (put_be n v l at) ≡ length l

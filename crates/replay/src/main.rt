@@ -6,9 +6,9 @@
 #![tactic(auto)]
 
 use crate::given::{given_line, number_of};
+use crate::input::{first_line, next_line};
 use crate::text::Output;
 use controller::opening::{open, open_state};
-use logs::input::{first_line, next_line};
 use logs::pieces::part;
 use logs::reader::request_in;
 use logs::ticks::request_tick;
@@ -18,6 +18,7 @@ use types::log::Line;
 use types::settings::{Given, Settings};
 
 mod given;
+mod input;
 mod printout;
 mod text;
 

@@ -23,7 +23,7 @@ fn silent_tick(
 ) -> LineTick
     ensures { result ≡ line_ticked told 0 (tick_of s st (unasked_of count contact)) }
 {
-    let t = controller::unasked::unasked_tick(s, st, count, contact);
+    let t = controller::unasked::inlined_tick(s, st, count, contact);
     LineTick {
         told,
         length: 0,

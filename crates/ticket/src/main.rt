@@ -3,8 +3,8 @@
 // `refused=` and the line's number, and ends. It only reads, calls and writes: what is read, done and printed is promised by the calls.
 #![tactic(auto)]
 
+use crate::input::{first_line, next_line};
 use controller::opening::{open, open_state};
-use logs::input::{first_line, next_line};
 use logs::pieces::part;
 use logs::reader::request_in;
 use logs::tickets::{settings_a, write_refused, write_ticket};
@@ -13,6 +13,8 @@ use std::io;
 use types::log::Line;
 use types::machine::{Answer, State};
 use types::settings::Settings;
+
+mod input;
 
 // The bytes of the log that are held at a time.
 const SPACE_BYTES: usize = 65_536;

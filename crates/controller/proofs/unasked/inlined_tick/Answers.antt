@@ -5,7 +5,7 @@ use Rattle.outline.specs.Numbers.{outcome_number}
 use Rattle.outline.specs.Steps.{Parts}
 use Rattle.outline.proofs.AnswerLaws.{unasked_number}
 use Rattle.outline.proofs.Steps.{parts_tick}
-use Rattle.controller.proofs.unasked.unasked_tick.Goals as goal
+use Rattle.controller.proofs.unasked.inlined_tick.Goals as goal
 
 pub returns-clause-ticked : goal.returns-clause-ticked
 returns-clause-ticked c =
